@@ -1,0 +1,16 @@
+pub mod Verdicts
+pub mod ZeroDigit
+pub mod Sum
+pub mod Scan
+pub mod FirstFault
+pub mod Refusals
+pub mod NonAdjacent
+pub mod Centred
+pub mod RecoderN
+pub mod Radix
+pub mod RecoderR
+pub mod Table
+pub mod Exactly
+pub mod Additions
+pub mod OutOfRange
+pub mod Figures

@@ -1,0 +1,10 @@
+pub mod Integer
+pub mod Digits
+pub mod Widths
+pub mod Forms
+pub mod Keeps
+pub mod Verdicts
+pub mod Test
+pub mod Refusals
+pub mod Exactly
+pub mod Figures
