@@ -2,5 +2,10 @@ pub mod Tests
 pub mod Below
 pub mod Rounding
 pub mod Balance
+pub mod Centred
 pub mod Positional
+pub mod Digits
+pub mod TopDigit
 pub mod Windows
+pub mod Filled
+pub mod Agree

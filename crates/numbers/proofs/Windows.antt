@@ -26,6 +26,10 @@ low v r w t l =
 above : (v r b w t : ℕ) → b + w ≤ t → (v + 2 ^ t * r) / 2 ^ b % 2 ^ w ≡ v / 2 ^ b % 2 ^ w
 above v r b w t l = sym (field _ w b) ∙ ap (λ (n : ℕ). n / 2 ^ b) (low v r (w + b) t (omega arith)) ∙ field v w b
 
+-- the window at bit b of digit i, where it ends inside the digit
+pub inside : (s : ℕ) (ds : List ℕ) (i b w : ℕ) → Below (2 ^ s) ds → b + w ≤ s → positional (2 ^ s) ds / 2 ^ (s * i + b) % 2 ^ w ≡ getD ds i 0 / 2 ^ b % 2 ^ w
+inside s ds i b w f l = rw (← shr-shr, ← pow-pow, off (2 ^ s) ds i f, front (2 ^ s) ds i) (above (getD ds i 0) (positional (2 ^ s) (drop (suc i) ds)) b w s l)
+
 -- the window at bit b of digit i, from the digits i and i + 1
 pub window : (s : ℕ) (ds : List ℕ) (i b w : ℕ) → Below (2 ^ s) ds → b + w ≤ s + s → positional (2 ^ s) ds / 2 ^ (s * i + b) % 2 ^ w ≡ (getD ds i 0 + 2 ^ s * getD ds (i + 1) 0) / 2 ^ b % 2 ^ w
 window s ds i b w f l =

@@ -1,2 +1,3 @@
 pub mod Positional
 pub mod Total
+pub mod Centred

@@ -1,3 +1,4 @@
+pub mod Integer
 pub mod Verdicts
 pub mod ZeroDigit
 pub mod Sum
@@ -5,7 +6,6 @@ pub mod Scan
 pub mod FirstFault
 pub mod Refusals
 pub mod NonAdjacent
-pub mod Centred
 pub mod RecoderN
 pub mod Radix
 pub mod RecoderR

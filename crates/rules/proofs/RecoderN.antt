@@ -11,13 +11,14 @@ use lib.Dec.{T, eqb, eqb→eq, T-not}
 use lib.ListN.{length, replicate}
 use lib.Pow.{pow-pos, pow-mono, pow-add}
 use lib.IntN.{ℤ, pos, natAbs}
+use Rattle.numbers.specs.Centred.{centred, carried}
+use Rattle.numbers.proofs.Centred.{centred-is}
 use Rattle.numbers.proofs.Balance.{up, dn, same, abs-balance, one-sided}
 use Rattle.numbers.proofs.Rounding.{twice, round-down}
 use Rattle.rules.specs.Digits.{digitAt, weighted}
 use Rattle.rules.specs.Forms.{formN}
 use Rattle.rules.specs.Keeps.{Keeps}
 use Rattle.rules.proofs.Sum.{cons-balance}
-use Rattle.rules.proofs.Centred.{centred, carried, centred-is}
 use Rattle.rules.proofs.NonAdjacent.{NonAdjacent, end, skip, put, nonadjacent-keeps}
 
 -- at width g + 1: the lowest digit of x, and what is left of x after it, halved
@@ -49,7 +50,7 @@ module _ (g : ℕ) (g⁺ : 0 < g) where
   odd-step x o =
       let r = x % (2 * 2 ^ g) in
       let q = x / (2 * 2 ^ g) in
-      let c = centred-is (2 ^ g) r (mod-lt x (omega (arith, pow-pos g))) in
+      let c = centred-is (2 ^ g) r (pow-pos g) (omega (arith, mod-lt x {m = 2 * 2 ^ g} (omega (arith, pow-pos g)))) in
       let e : x + dn (centred (2 ^ g) r) ≡ up (centred (2 ^ g) r) + 2 * (2 ^ g * (q + carried (2 ^ g) r)) = omega (arith, div-add-mod x (2 * 2 ^ g), mul-add (2 ^ g) q (carried (2 ^ g) r), c .total) in
       let p = abs-balance (centred (2 ^ g) r) in
       let a : natAbs (centred (2 ^ g) r) % 2 ≡ 1 = omega arith in

@@ -10,12 +10,13 @@ use lib.Pow.{pow-pos}
 use lib.IntN.{ℤ, pos}
 use Rattle.numbers.proofs.Tests.{and-both}
 use Rattle.numbers.proofs.Rounding.{twice, round-down}
+use Rattle.numbers.specs.Centred.{centred, carried}
+use Rattle.numbers.proofs.Centred.{centred-is}
 use Rattle.numbers.proofs.Balance.{up, dn, same}
 use Rattle.rules.specs.Digits.{digitAt, weighted}
 use Rattle.rules.specs.Forms.{digitR}
 use Rattle.rules.proofs.ZeroDigit.{replicate-zero}
 use Rattle.rules.proofs.Sum.{cons-balance, zeros-sum}
-use Rattle.rules.proofs.Centred.{centred, carried, centred-is}
 use Rattle.rules.proofs.Radix.{Between, before-digitR, zero-digitR}
 
 -- the lowest digit of x, and what is left of x above it
@@ -42,7 +43,7 @@ module _ (w : ℕ) (w⁺ : 0 < w) where
       let r = x % 2 ^ w in
       let q = x / 2 ^ w in
       let e : 2 * h ≡ 2 ^ w = sym (twice w w⁺) in
-      let c = centred-is h r (rw e (mod-lt x (pow-pos w))) in
+      let c = centred-is h r (pow-pos (w - 1)) (omega (arith, e, mod-lt x {m = 2 ^ w} (pow-pos w))) in
       let t : r + dn (centred h r) ≡ up (centred h r) + 2 ^ w * carried h r = rw e at (c .total) in
       record { digit = record { below = c .below; above = c .above }; total = omega (arith, div-add-mod x (2 ^ w), mul-add (2 ^ w) q (carried h r)) }
 

@@ -6,5 +6,6 @@ pub mod Keeps
 pub mod Verdicts
 pub mod Test
 pub mod Refusals
+pub mod Promises
 pub mod Exactly
 pub mod Figures

@@ -1,0 +1,6 @@
+pub mod TopByte
+pub mod Reduced
+pub mod Selects
+pub mod Zeroized
+pub mod BitLaws
+pub mod WindowLaws
