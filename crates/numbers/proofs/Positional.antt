@@ -66,7 +66,7 @@ append b [] ys = rw (pow-zero, one-mul, zero-add)
 append b (x ∷ xs) ys = omega (arith, ap (λ (n : ℕ). b * n) (append b xs ys), ap (λ (n : ℕ). n * positional b ys) (pow-suc b (length xs)))
 
 -- written out: digit i counts b^i
-up-to : (b : ℕ) (ds : List ℕ) (n : ℕ) → n ≤ length ds → positional b (take n ds) ≡ totalℕ (λ i. getD ds i 0 * b ^ i) n
+pub up-to : (b : ℕ) (ds : List ℕ) (n : ℕ) → n ≤ length ds → positional b (take n ds) ≡ totalℕ (λ i. getD ds i 0 * b ^ i) n
 unfolding positional totalℕ
 up-to b ds zero h = refl
 up-to b ds (suc n) h =

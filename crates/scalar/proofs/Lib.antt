@@ -4,3 +4,5 @@ pub mod Selects
 pub mod Zeroized
 pub mod BitLaws
 pub mod WindowLaws
+pub mod WordLaws
+pub mod WordSteps

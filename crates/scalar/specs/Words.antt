@@ -1,5 +1,5 @@
 -- 01, "Bytes, bits, words": words of eight bytes. Assumes nothing.
-use Prim.Native.Nat.{ℕ, _*_, _/_, _%_, _^_, _<_}
+use Prim.Native.Nat.{ℕ, _+_, _*_, _/_, _%_, _^_, _<_}
 use mathlib.Core.Path.{_≡_}
 use mathlib.Core.Logic.{_≢_}
 use mathlib.Core.List.{List}
@@ -11,6 +11,18 @@ use Rattle.rules.specs.declared.Verdict.the-variants.{Done, WrongLength}
 -- Word k: the little-endian value of its eight bytes.
 abbrev pub wordAt : List ℕ → ℕ → ℕ
 wordAt bytes k = integer (take 8 (drop (8 * k) bytes))
+
+-- The same written out: the eight bytes from place `at` up, the lowest first.
+abbrev pub eightBytes : List ℕ → ℕ → ℕ
+eightBytes bytes at =
+    getD bytes at 0
+    + getD bytes (at + 1) 0 * 2 ^ 8
+    + getD bytes (at + 2) 0 * 2 ^ 16
+    + getD bytes (at + 3) 0 * 2 ^ 24
+    + getD bytes (at + 4) 0 * 2 ^ 32
+    + getD bytes (at + 5) 0 * 2 ^ 40
+    + getD bytes (at + 6) 0 * 2 ^ 48
+    + getD bytes (at + 7) 0 * 2 ^ 56
 
 -- Byte i of some words: byte i % 8 of word i / 8.
 abbrev pub byteAt : List ℕ → ℕ → ℕ

@@ -2,6 +2,7 @@
 pub mod bits;
 pub mod select;
 pub mod window;
+pub mod words;
 pub mod zeroize;
 
 ghost use mathlib.Core.Path.{_≡_};
