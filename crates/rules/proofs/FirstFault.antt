@@ -1,8 +1,8 @@
 -- The first fault, index by index, and that the walk with a counter finds the same. Assumes nothing.
 use mathlib.Core.Path.{_≡_, refl, sym, _∙_, ap}
 use mathlib.Core.Logic.{_≢_, _⊎_, inl, inr}
-use mathlib.Core.Bool.{Bool, true, false, not, cond, _&&_}
-use mathlib.Core.List.{List, [], _∷_}
+use mathlib.Core.Bool.{Bool, true, false, not, _&&_}
+use mathlib.Core.List.{List}
 use Prim.Native.Nat.{ℕ, zero, suc, _+_, _-_, _≤_, _<_}
 use native.Mathlib.Nat.{zero-add}
 use native.Mathlib.Decide.{decLt}
@@ -20,24 +20,8 @@ use Rattle.rules.specs.Test.{crowded, faultAt, firstFault}
 use Rattle.rules.specs.Refusals.{BreaksAt, CrowdsAt}
 use Rattle.rules.proofs.Verdicts.{done-orElse, refused-orElse, unless-held, unless-failed}
 use Rattle.rules.proofs.ZeroDigit.{zero-or, nonzero-of, nonzero-is}
+use Rattle.rules.proofs.Tally.{none-nonzero, some-nonzero}
 use Rattle.rules.proofs.Scan.{scan, view, View, clean, stops, stopped, good-scan, stop-scan, good-keeps, stop-breaks, stop-crowds}
-
--- ---- the number of non-zero digits is 0 exactly if each is 0
-
-pub none-nonzero : (xs : List ℤ) → ((m : ℕ) → m < length xs → digitAt xs m ≡ pos 0) → nonZeros xs ≡ 0
-unfolding nonZeros
-none-nonzero [] f = refl
-none-nonzero (x ∷ xs) f = rw (f 0 (omega arith)) (none-nonzero xs (λ m h. f (suc m) (omega arith)))
-
-pub some-nonzero : (xs : List ℤ) (m : ℕ) → m < length xs → digitAt xs m ≢ pos 0 → 0 < nonZeros xs
-unfolding nonZeros
-some-nonzero [] m h f = absurd (omega arith)
-some-nonzero (x ∷ xs) zero h f = rw (nonzero-of x f) (omega arith)
-some-nonzero (x ∷ xs) (suc m) h f = go (isZero x) (some-nonzero xs m (omega arith) f)
-  where
-    go : (b : Bool) → 0 < nonZeros xs → 0 < cond b (nonZeros xs) (1 + nonZeros xs)
-    go true l = l
-    go false l = omega arith
 
 module _ (gap : ℕ) (ds : List ℤ) where
   -- the digits just below index j: the m-th of them is digit (j - gap) + m
@@ -150,3 +134,12 @@ module _ (F : Form) (ds : List ℤ) where
       go (clean q) = good-scan F q ∙ sym (keeps-first (good-keeps F q))
       go (stops {c = false} {k = k} q) = stop-scan F q ∙ ap (stopped false) (zero-add k) ∙ sym (breaks-first k (stop-breaks F q))
       go (stops {c = true} {k = k} q) = stop-scan F q ∙ ap (stopped true) (zero-add k) ∙ sym (crowds-first k (stop-crowds F q))
+
+  -- where there is no fault the rules are kept
+  pub first-keeps : firstFault F ds 0 (length ds) ≡ Done → Keeps F ds
+  first-keeps d = go found
+    where
+      go : Found → Keeps F ds
+      go (nothing k e) = k
+      go (broken k b e) = absurd (let z : _≡_ {A = ℕ} 0 1 = cc in omega arith)
+      go (crowd k b e) = absurd (let z : _≡_ {A = ℕ} 0 1 = cc in omega arith)

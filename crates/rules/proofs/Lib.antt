@@ -2,8 +2,10 @@ pub mod Integer
 pub mod Verdicts
 pub mod ZeroDigit
 pub mod Sum
+pub mod Tally
 pub mod Scan
 pub mod FirstFault
+pub mod Walk
 pub mod Refusals
 pub mod NonAdjacent
 pub mod RecoderN
@@ -11,6 +13,8 @@ pub mod Radix
 pub mod RecoderR
 pub mod Table
 pub mod Exactly
+pub mod Promises
+pub mod Reading
 pub mod Additions
 pub mod OutOfRange
 pub mod Figures

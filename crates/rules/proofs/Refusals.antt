@@ -52,7 +52,7 @@ ranged end (pos x) = go (ltb x end) (λ t. t) (λ t. nltb→le x end t)
 
 module _ (F : Form) (ds : List ℤ) where
   -- past the length and the width it is the digits and then the sum
-  offered-verdict : Offered F ds → verdict F ds ≡ firstFault F ds 0 (length ds) orElse rangeFault (F .end) (weighted (F .base) ds)
+  pub offered-verdict : Offered F ds → verdict F ds ≡ firstFault F ds 0 (length ds) orElse rangeFault (F .end) (weighted (F .base) ds)
   unfolding verdict
   offered-verdict o =
       rw (unless-held (eqb (length ds) (F .long)) WrongLength (subst (λ (n : ℕ). T (eqb (length ds) n)) (o .long) (eqb-refl (length ds))), unless-held (F .allowed) WrongWidth (o .allowed))

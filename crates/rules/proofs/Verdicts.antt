@@ -1,6 +1,6 @@
 -- Verdicts: which is done, what is tried first, and that the number and the position tell them apart. Assumes nothing.
 use mathlib.Core.Path.{_≡_, refl, sym, _∙_, ap}
-use mathlib.Core.Logic.{_≢_}
+use mathlib.Core.Logic.{_≢_, _⊎_, inl, inr}
 use mathlib.Core.Bool.{Bool, true, false, not, cond}
 use Prim.Native.Nat.{ℕ, zero, suc}
 use native.Mathlib.Omega.{arith}
@@ -45,6 +45,13 @@ pub number-zero : (v : Verdict) → number v ≡ 0 → v ≡ Done
 unfolding named
 number-zero v e = sym (named-back v) ∙ rw e
 
+pub done-or : (v : Verdict) → (v ≡ Done) ⊎ (number v ≢ 0)
+done-or v = go (number v) refl
+  where
+    go : (n : ℕ) → number v ≡ n → (v ≡ Done) ⊎ (number v ≢ 0)
+    go zero e = inl (number-zero v e)
+    go (suc n) e = inr (λ z. omega arith)
+
 -- what comes first decides, unless it is done
 pub done-orElse : (v : Verdict) → Done orElse v ≡ v
 unfolding _orElse_
@@ -74,3 +81,7 @@ unless-held false v t = absurd t
 pub unless-failed : (b : Bool) (v : Verdict) → T (not b) → unless b v ≡ v
 unless-failed true v t = absurd t
 unless-failed false v t = refl
+
+pub unless-done : (b : Bool) (v : Verdict) → number v ≢ 0 → unless b v ≡ Done → T b
+unless-done true v f e = tt
+unless-done false v f e = f (ap number e)

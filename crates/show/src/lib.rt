@@ -63,3 +63,26 @@ pub fn words(w: &[u64]) {
         i += 1;
     }
 }
+
+// A digit that is not 0: its index, a colon, the digit, and a space.
+fn entry(i: usize, d: i8) {
+    if d == 0 {
+        return;
+    }
+    io::print_decimal(STDOUT_FILENO, i as u64);
+    if d < 0 {
+        io::write_all(STDOUT_FILENO, b":-");
+    } else {
+        io::write_all(STDOUT_FILENO, b":");
+    }
+    number(digits::magnitude::magnitude(d) as u64);
+}
+
+// The digits that are not 0, from the lowest index.
+pub fn string(ds: &[i8]) {
+    let mut i: usize = 0;
+    while i < ds.len() {
+        entry(i, ds[i]);
+        i += 1;
+    }
+}

@@ -1,0 +1,4 @@
+pub mod Centre
+pub mod Half
+pub mod Adds
+pub mod SumRead

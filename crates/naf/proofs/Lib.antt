@@ -1,0 +1,7 @@
+pub mod Span
+pub mod Places
+pub mod Due
+pub mod Replies
+pub mod NafPromise
+pub mod Faults
+pub mod ReadLaws

@@ -1,0 +1,2 @@
+pub mod NonAdjacentForm
+pub mod Turns

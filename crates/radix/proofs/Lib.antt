@@ -1,0 +1,7 @@
+pub mod Carries
+pub mod Rows
+pub mod Front
+pub mod Promised
+pub mod Halves
+pub mod Offsets
+pub mod ReadLaws

@@ -1,0 +1,152 @@
+-- What the recoders of R promise: how a reply comes to keep it, that it fixes the reply and the string, and what the source said before it. Assumes nothing.
+use mathlib.Core.Path.{_≡_, refl, sym, ap, _∙_}
+use mathlib.Core.Logic.{_≢_, by-cases}
+use mathlib.Core.Bool.{Bool, not, _||_}
+use mathlib.Core.List.{List}
+use Prim.Native.Nat.{ℕ, _-_, _^_, _≤_, _<_}
+use native.Mathlib.Decide.{decLt, ℕ-discrete}
+use native.Mathlib.Omega.{arith}
+use borrow.Author.Tests.{ne-eqb}
+use lib.Dec.{T, leb, eqb, leb→le, le→leb, not-T}
+use lib.ListN.{length, getD, take, replicate, length-replicate, List·getD-eq-default}
+use lib.IntN.{ℤ, pos, negsuc, natAbs}
+use Rattle.numbers.proofs.Tests.{and-right}
+use Rattle.rules.specs.declared.Verdict.{Verdict}
+use Rattle.rules.specs.declared.Verdict.the-variants.{Done, WrongWidth, TooWide}
+use Rattle.rules.specs.Integer.{integer, Bytes}
+use Rattle.rules.specs.Digits.{digitAt, weighted}
+use Rattle.rules.specs.Widths.{widthR, row}
+use Rattle.rules.specs.Forms.{digitR, cardR}
+use Rattle.rules.specs.Keeps.{Passes}
+use Rattle.rules.specs.Verdicts.{number, unless}
+use Rattle.rules.proofs.Verdicts.{orElse-done, done-orElse, refused-orElse, unless-held, unless-failed, unless-done}
+use Rattle.rules.proofs.Promises.{SumFixes, done-or-refused, recodes-determined}
+use Rattle.rules.proofs.Radix.{Between, digitR-before, unique-r}
+use Rattle.rules.proofs.RecoderR.{radixOf, RecodedR, recoded-r}
+use Rattle.rules.proofs.Table.{FromTo, row-fits, width-between}
+use Rattle.rules.proofs.Exactly.{passing, equal-digits-r}
+use Rattle.scalar.proofs.TopByte.{byte-31}
+use Rattle.radix.specs.RadixForm.{dueR, RecodesR}
+use Rattle.radix.proofs.Rows.{width-held, all-bits, bytes-range}
+use Rattle.radix.proofs.Front.{front-sum, past-zero}
+
+-- ---- which verdict is due
+
+-- byte 31 leaves the top bit free where it has to
+abbrev room : List ℕ → ℕ → Bool
+room bytes w = not (eqb w 4) || leb (getD bytes 31 0) 127
+
+module _ (bytes : List ℕ) (w : ℕ) where
+  parts : dueR bytes w ≡ Done → T (widthR w) × T (room bytes w)
+  parts e =
+      let h = orElse-done (unless (widthR w) WrongWidth) (unless (room bytes w) TooWide) e in
+      (unless-done (widthR w) WrongWidth (λ z. omega arith) (h .0), unless-done (room bytes w) TooWide (λ z. omega arith) (h .1))
+
+  due-done : T (widthR w) → T (room bytes w) → dueR bytes w ≡ Done
+  due-done t u = rw (unless-held (widthR w) WrongWidth t, unless-held (room bytes w) TooWide u) (done-orElse Done)
+
+  pub due-wrong-width : (FromTo 4 8 w → ⊥) → dueR bytes w ≡ WrongWidth
+  due-wrong-width f = rw (unless-failed (widthR w) WrongWidth (not-T (widthR w) (λ t. f (width-between 4 8 w t)))) (refused-orElse WrongWidth _ (λ z. omega arith))
+
+  pub due-range : Bytes 32 bytes → dueR bytes w ≡ Done → integer bytes < 2 ^ row w .bits
+  unfolding row
+  due-range b e =
+      by-cases (ℕ-discrete w 4)
+      (λ p. let t : T (leb (getD bytes 31 0) 127) = rw p at (parts e .1) in rw p (byte-31 b .0 (leb→le _ _ t)))
+      (λ n. rw (all-bits w (parts e .0) n) (bytes-range b))
+
+pub due-16 : (bytes : List ℕ) → getD bytes 31 0 ≤ 127 → dueR bytes 4 ≡ Done
+due-16 bytes l = due-done bytes 4 tt (le→leb (getD bytes 31 0) 127 l)
+
+pub due-2w : (bytes : List ℕ) (w : ℕ) → 4 < w → w ≤ 8 → dueR bytes w ≡ Done
+due-2w bytes w a b = due-done bytes w (width-held w (omega arith) b) (rw (ne-eqb w 4 (λ e. omega arith)) tt)
+
+pub due-too-wide : (bytes : List ℕ) → 127 < getD bytes 31 0 → dueR bytes 4 ≡ TooWide
+due-too-wide bytes l = rw (done-orElse, unless-failed (room bytes 4) TooWide (not-T (room bytes 4) (λ t. let h = leb→le (getD bytes 31 0) 127 t in omega arith)))
+
+-- ---- replies that keep the promise
+
+module _ (bytes : List ℕ) (w : ℕ) where
+  -- the recoder's string
+  pub promised : (ds : List ℤ) → Bytes 32 bytes → dueR bytes w ≡ Done → ds ≡ radixOf w (64 - row w .digits) (row w .digits - 1) (integer bytes) → RecodesR bytes w Done ds (row w .digits) 0
+  promised ds b d e =
+      let t = parts bytes w d .0 in
+      let f = row-fits w t in
+      let n = row w .digits in
+      let r : RecodedR w n (row w .top) (64 - n) (integer bytes) ds =
+      rw e (recoded-r w n (row w .top) (64 - n) (integer bytes) (omega (arith, width-between 4 8 w t .low)) (omega (arith, f .several)) (omega (arith, f .ends, due-range bytes w b d))) in
+      record {
+        recodes = record {
+          answered = sym d;
+          long = omega (arith, r .long, f .most);
+          keeps = λ _. record { digits = λ i l. r .digits i; spacing = λ i j l m u v. absurd (omega arith) };
+          sums = λ _. r .sums;
+          zeros = λ n. absurd (n d);
+        };
+        counts = λ _. refl;
+        uncounted = λ n. absurd (n d);
+        adds = refl;
+      }
+
+  -- zeros, with the refusal that is due
+  pub refusing : {v answer : Verdict} {ds : List ℤ} {counted added : ℕ} → dueR bytes w ≡ v → number v ≢ 0
+      → (answer ≡ v) × (ds ≡ replicate 64 (pos 0)) × (counted ≡ 0) × (added ≡ 0) → RecodesR bytes w answer ds counted added
+  refusing e n p =
+      let no : dueR bytes w ≢ Done = λ d. n (ap number (sym e ∙ d)) in
+      record {
+        recodes = record { answered = p .0 ∙ sym e; long = ap length (p .1) ∙ length-replicate 64 (pos 0); keeps = λ d. absurd (no d); sums = λ d. absurd (no d); zeros = λ _. p .1 };
+        counts = λ d. absurd (no d);
+        uncounted = λ _. p .2;
+        adds = p .3;
+      }
+
+-- ---- the promise fixes the reply
+
+module _ (bytes : List ℕ) (w : ℕ) {answer : Verdict} {digits : List ℤ} {counted added : ℕ} (r : RecodesR bytes w answer digits counted added) where
+  pub radix-determined : {answer′ : Verdict} {digits′ : List ℤ} {counted′ added′ : ℕ} → RecodesR bytes w answer′ digits′ counted′ added′
+      → (answer ≡ answer′) × (digits ≡ digits′) × (counted ≡ counted′) × (added ≡ added′)
+  radix-determined s =
+      let h = recodes-determined (cardR w) (dueR bytes w) (integer bytes) fixes (r .recodes) (s .recodes) in (
+        h .0,
+        h .1,
+        done-or-refused (dueR bytes w) (λ d. r .counts d ∙ sym (s .counts d)) (λ n. r .uncounted n ∙ sym (s .uncounted n)),
+        r .adds ∙ sym (s .adds),
+      )
+    where
+      fixes : dueR bytes w ≡ Done → SumFixes (cardR w)
+      fixes d ds es k m l e = unique-r w (row w .digits) (row w .top) (omega (arith, width-between 4 8 w (parts bytes w d .0) .low)) ds es (k .digits) (m .digits) l e
+
+  -- where the call is due, a reply's digits pass, and they are the only passing string with that sum
+  module _ (d : dueR bytes w ≡ Done) where
+    pub radix-passes : Bytes 32 bytes → Passes (cardR w) digits
+    radix-passes b = passing (cardR w) digits (integer bytes) (r .recodes .long) (parts bytes w d .0) (r .recodes .keeps d) (r .recodes .sums d) (due-range bytes w b d)
+
+    pub radix-is-the-string : Bytes 32 bytes → Passes (cardR w) digits × ((es : List ℤ) → Passes (cardR w) es → weighted (2 ^ w) es ≡ pos (integer bytes) → es ≡ digits)
+    radix-is-the-string b = let p = radix-passes b in (p, λ es q e. equal-digits-r w es digits q p .1 (e ∙ sym (r .recodes .sums d)))
+
+    -- entries past the count are 0, so the digits that count have the whole sum
+    pub implies-radix-sum : weighted (2 ^ w) (take (row w .digits) digits) ≡ pos (integer bytes)
+    implies-radix-sum = front-sum (2 ^ w) (row w .digits) digits (past-zero w digits (r .recodes .keeps d)) ∙ r .recodes .sums d
+
+-- ---- the digits of radix 16
+
+between-8 : (d : ℤ) → Between 8 d → natAbs d ≤ 8
+between-8 (pos n) b = omega (arith, b .below)
+between-8 (negsuc n) b = omega (arith, b .above)
+
+last-8 : (d : ℤ) → T (digitR 4 64 8 63 d) → natAbs d ≤ 8
+unfolding digitR
+last-8 (pos n) t = leb→le n 8 (and-right (leb 0 n) (leb n 8) t)
+last-8 (negsuc n) t = absurd t
+
+pub implies-radix-16-bounds : {bytes : List ℕ} {answer : Verdict} {digits : List ℤ} {counted added : ℕ} → RecodesR bytes 4 answer digits counted added → dueR bytes 4 ≡ Done → (i : ℕ) → natAbs (digitAt digits i) ≤ 8
+unfolding row
+implies-radix-16-bounds {digits} r d i = go (decLt i 63) (decLt 63 i)
+  where
+    kept : i < 64 → T (digitR 4 64 8 i (digitAt digits i))
+    kept h = r .recodes .keeps d .digits i (omega (arith, r .recodes .long))
+
+    go : Dec (i < 63) → Dec (63 < i) → natAbs (digitAt digits i) ≤ 8
+    go (yes h) m = between-8 (digitAt digits i) (digitR-before 4 64 8 i (digitAt digits i) (omega arith) (kept (omega arith)))
+    go (no h) (yes m) = rw (List·getD-eq-default digits (pos 0) {n = i} (omega (arith, r .recodes .long))) (omega arith)
+    go (no h) (no m) = let e : i ≡ 63 = omega arith in rw e (last-8 (digitAt digits 63) (rw e at (kept (omega arith))))

@@ -1,0 +1,154 @@
+// The recoders of form R.
+use crate::shape::shape;
+use digits::centre::Centred;
+use digits::centre::centre;
+use rules::Verdict;
+use scalar::Scalar;
+use scalar::window::window;
+ghost use mathlib.Core.Path.{_≡_};
+ghost use Prim.Native.Nat.{_+_, _-_, _/_, _%_, _^_, _<_, _≤_};
+ghost use lib.ListN.{getD, replicate};
+ghost use lib.IntN.{pos};
+ghost use Rattle.numbers.specs.Centred.{centred, carried};
+ghost use Rattle.rules.specs.Integer.{integer};
+ghost use Rattle.rules.specs.Widths.{row};
+ghost use Rattle.rules.proofs.RecoderR.{radixOf};
+ghost use Rattle.radix.specs.RadixForm.{RecodesR};
+
+// The digits and their number; R counts no additions.
+pub struct Radix {
+    pub verdict: Verdict,
+    pub digits: [i8; 64],
+    pub count: usize,
+    pub additions: usize,
+}
+
+// A refusal has zeros.
+fn refused(verdict: Verdict) -> Radix
+    ensures { λ r. ⌜ (r .verdict ≡ verdict) × (r .digits ≡ replicate 64 (pos 0)) × (r .count ≡ 0) × (r .additions ≡ 0) ⌝ }
+{
+    Radix {
+        verdict,
+        digits: [0i8; 64],
+        count: 0,
+        additions: 0,
+    }
+}
+
+// The two digits of a byte, and what they carry to the next.
+struct Pair {
+    low: i8,
+    high: i8,
+    carry: u32,
+}
+
+// A byte's halves, the lower first, each with the carry from below.
+fn two_digits(byte: u8, carry: u32) -> Pair
+    requires { ⌜ carry ≤ 1 ⌝ }
+    ensures { λ r. ⌜
+        (r .low ≡ centred 8 (byte % 16 + carry))
+        × (r .high ≡ centred 8 (byte / 16 + carried 8 (byte % 16 + carry)))
+        × (r .carry ≡ carried 8 (byte / 16 + carried 8 (byte % 16 + carry)))
+        × (r .carry ≤ 1) ⌝ }
+{
+    let low = centre((byte % 16) as u32 + carry, 8);
+    let high = centre((byte / 16) as u32 + low.carry, 8);
+    Pair {
+        low: low.digit,
+        high: high.digit,
+        carry: high.carry,
+    }
+}
+
+// The 64 digits of radix 16; the last is not recentred.
+fn nibbles(bytes: [u8; 32]) -> [i8; 64]
+    requires { ⌜ getD bytes 31 0 ≤ 127 ⌝ }
+    ensures { λ r. ⌜ r ≡ radixOf 4 0 63 (integer bytes) ⌝ }
+{
+    let mut digits = [0i8; 64];
+    let mut carry: u32 = 0;
+    for k in 0..31 {
+        let two = two_digits(bytes[k], carry);
+        carry = two.carry;
+        let low = two.low;
+        let high = two.high;
+        digits[2 * k] = low;
+        digits[2 * k + 1] = high;
+    }
+    let top = bytes[31];
+    let below = centre((top % 16) as u32 + carry, 8);
+    let low = below.digit;
+    digits[62] = low;
+    digits[63] = ((top / 16) as u32 + below.carry) as i8;
+    digits
+}
+
+// A byte 31 above 127 is refused.
+pub fn as_radix_16(s: Scalar) -> Radix
+    ensures { λ r. ⌜ RecodesR (s .bytes) 4 (r .verdict) (r .digits) (r .count) (r .additions) ⌝ }
+{
+    let bytes = s.bytes;
+    if 127 < bytes[31] {
+        return refused(Verdict::TooWide);
+    }
+    let digits = nibbles(bytes);
+    Radix {
+        verdict: Verdict::Done,
+        digits,
+        count: 64,
+        additions: 0,
+    }
+}
+
+// The digit of the window at a place, with the carry from below.
+fn digit_at(bytes: &[u8], at: usize, w: usize, carry: u32) -> Centred
+    requires { ⌜ (4 < w) × (w ≤ 8) × (carry ≤ 1) ⌝ }
+    ensures { λ r. ⌜
+        (r .digit ≡ centred (2 ^ (w - 1)) (integer (now (bytes .entry)) / 2 ^ at % 2 ^ w + carry))
+        × (r .carry ≡ carried (2 ^ (w - 1)) (integer (now (bytes .entry)) / 2 ^ at % 2 ^ w + carry)) ⌝ }
+{
+    centre(window(bytes, at, w as u32) + carry, 1 << (w - 1))
+}
+
+// The digits of radix 2^w, n of them; the last is its window and the carry.
+fn windows(bytes: [u8; 32], w: usize, n: usize) -> [i8; 64]
+    requires { ⌜ (4 < w) × (w ≤ 8) × (n ≡ row w .digits) ⌝ }
+    ensures { λ r. ⌜ r ≡ radixOf w (64 - n) (n - 1) (integer bytes) ⌝ }
+{
+    let mut digits = [0i8; 64];
+    let mut carry: u32 = 0;
+    let last = n - 1;
+    for i in 0..last {
+        let c = digit_at(&bytes, w * i, w, carry);
+        carry = c.carry;
+        let d = c.digit;
+        digits[i] = d;
+    }
+    let top = window(&bytes, w * last, w as u32) + carry;
+    digits[last] = top as i8;
+    digits
+}
+
+// A width other than 4 to 8 is refused; width 4 is radix 16.
+pub fn as_radix_2w(s: Scalar, w: usize) -> Radix
+    ensures { λ r. ⌜ RecodesR (s .bytes) w (r .verdict) (r .digits) (r .count) (r .additions) ⌝ }
+{
+    if w < 4 {
+        return refused(Verdict::WrongWidth);
+    }
+    if 8 < w {
+        return refused(Verdict::WrongWidth);
+    }
+    if w == 4 {
+        return as_radix_16(s);
+    }
+    let n = shape(w).digits;
+    let bytes = s.bytes;
+    let digits = windows(bytes, w, n);
+    Radix {
+        verdict: Verdict::Done,
+        digits,
+        count: n,
+        additions: 0,
+    }
+}
