@@ -42,6 +42,9 @@ module _ (bytes : List ℕ) (w : ℕ) where
       let h = orElse-done (unless (widthR w) WrongWidth) (unless (room bytes w) TooWide) e in
       (unless-done (widthR w) WrongWidth (λ z. omega arith) (h .0), unless-done (room bytes w) TooWide (λ z. omega arith) (h .1))
 
+  pub due-width : dueR bytes w ≡ Done → T (widthR w)
+  due-width e = parts e .0
+
   due-done : T (widthR w) → T (room bytes w) → dueR bytes w ≡ Done
   due-done t u = rw (unless-held (widthR w) WrongWidth t, unless-held (room bytes w) TooWide u) (done-orElse Done)
 
@@ -67,25 +70,26 @@ due-too-wide bytes l = rw (done-orElse, unless-failed (room bytes 4) TooWide (no
 -- ---- replies that keep the promise
 
 module _ (bytes : List ℕ) (w : ℕ) where
-  -- the recoder's string
-  pub promised : (ds : List ℤ) → Bytes 32 bytes → dueR bytes w ≡ Done → ds ≡ radixOf w (64 - row w .digits) (row w .digits - 1) (integer bytes) → RecodesR bytes w Done ds (row w .digits) 0
-  promised ds b d e =
+  -- the recoder's string of n digits, n being the row's
+  pub promised : (n : ℕ) (string : List ℤ) {answer : Verdict} {ds : List ℤ} {counted added : ℕ} → Bytes 32 bytes → dueR bytes w ≡ Done → n ≡ row w .digits → string ≡ radixOf w (64 - n) (n - 1) (integer bytes)
+      → (answer ≡ Done) × (ds ≡ string) × (counted ≡ n) × (added ≡ 0) → RecodesR bytes w answer ds counted added
+  promised n string {ds} b d m e p =
       let t = parts bytes w d .0 in
       let f = row-fits w t in
-      let n = row w .digits in
-      let r : RecodedR w n (row w .top) (64 - n) (integer bytes) ds =
-      rw e (recoded-r w n (row w .top) (64 - n) (integer bytes) (omega (arith, width-between 4 8 w t .low)) (omega (arith, f .several)) (omega (arith, f .ends, due-range bytes w b d))) in
+      let r : RecodedR w (row w .digits) (row w .top) (64 - row w .digits) (integer bytes) ds =
+      rw (p .1, e, m)
+      (recoded-r w (row w .digits) (row w .top) (64 - row w .digits) (integer bytes) (omega (arith, width-between 4 8 w t .low)) (omega (arith, f .several)) (omega (arith, f .ends, due-range bytes w b d))) in
       record {
         recodes = record {
-          answered = sym d;
+          answered = p .0 ∙ sym d;
           long = omega (arith, r .long, f .most);
           keeps = λ _. record { digits = λ i l. r .digits i; spacing = λ i j l m u v. absurd (omega arith) };
           sums = λ _. r .sums;
-          zeros = λ n. absurd (n d);
+          zeros = λ no. absurd (no d);
         };
-        counts = λ _. refl;
-        uncounted = λ n. absurd (n d);
-        adds = refl;
+        counts = λ _. p .2 ∙ m;
+        uncounted = λ no. absurd (no d);
+        adds = p .3;
       }
 
   -- zeros, with the refusal that is due

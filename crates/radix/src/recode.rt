@@ -23,16 +23,22 @@ pub struct Radix {
     pub additions: usize,
 }
 
+fn reply(verdict: Verdict, digits: [i8; 64], count: usize) -> Radix
+    ensures { λ r. ⌜ (r .verdict ≡ verdict) × (r .digits ≡ digits) × (r .count ≡ count) × (r .additions ≡ 0) ⌝ }
+{
+    Radix {
+        verdict,
+        digits,
+        count,
+        additions: 0,
+    }
+}
+
 // A refusal has zeros.
 fn refused(verdict: Verdict) -> Radix
     ensures { λ r. ⌜ (r .verdict ≡ verdict) × (r .digits ≡ replicate 64 (pos 0)) × (r .count ≡ 0) × (r .additions ≡ 0) ⌝ }
 {
-    Radix {
-        verdict,
-        digits: [0i8; 64],
-        count: 0,
-        additions: 0,
-    }
+    reply(verdict, [0i8; 64], 0)
 }
 
 // The two digits of a byte, and what they carry to the next.
@@ -91,13 +97,7 @@ pub fn as_radix_16(s: Scalar) -> Radix
     if 127 < bytes[31] {
         return refused(Verdict::TooWide);
     }
-    let digits = nibbles(bytes);
-    Radix {
-        verdict: Verdict::Done,
-        digits,
-        count: 64,
-        additions: 0,
-    }
+    reply(Verdict::Done, nibbles(bytes), 64)
 }
 
 // The digit of the window at a place, with the carry from below.
@@ -144,11 +144,5 @@ pub fn as_radix_2w(s: Scalar, w: usize) -> Radix
     }
     let n = shape(w).digits;
     let bytes = s.bytes;
-    let digits = windows(bytes, w, n);
-    Radix {
-        verdict: Verdict::Done,
-        digits,
-        count: n,
-        additions: 0,
-    }
+    reply(Verdict::Done, windows(bytes, w, n), n)
 }

@@ -60,3 +60,13 @@ nonZeros-put (e ∷ ds) (suc at) d l z f = under (isZero e) _ _ (nonZeros-put ds
     under : (b : Bool) (m n : ℕ) → m ≡ n + 1 → cond b m (1 + m) ≡ cond b n (1 + n) + 1
     under true m n h = h
     under false m n h = omega arith
+
+-- the count reaches no further than the string
+pub count-most : (ds : List ℤ) → count ds ≤ length ds
+unfolding count
+count-most [] = omega arith
+count-most (d ∷ ds) = go (isZero d && eqb (count ds) 0) (count-most ds)
+  where
+    go : (b : Bool) → count ds ≤ length ds → cond b 0 (1 + count ds) ≤ suc (length ds)
+    go true l = omega arith
+    go false l = omega arith

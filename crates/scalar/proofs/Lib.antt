@@ -2,6 +2,7 @@ pub mod TopByte
 pub mod Reduced
 pub mod Selects
 pub mod Zeroized
+pub mod FromSlices
 pub mod BitLaws
 pub mod WindowLaws
 pub mod WordLaws

@@ -1,12 +1,13 @@
 -- `radix::recode::as_radix_16` meets its contract: byte 31 decides, and the 64 digits are the string of width 4. Assumes nothing.
+use mathlib.Core.Path.{refl}
 use Prim.Native.Nat.{ℕ}
 use native.Mathlib.Omega.{arith}
+use borrow.Author.Needs.{needs}
 use lib.ListN.{getD}
 use mir.Syntax.{w8}
 use mir.Val.{Fits}
 use Rattle.rules.specs.Widths.{row}
 use Rattle.radix.proofs.Promised.{due-16, due-too-wide, promised, refusing}
-use borrow.Author.Needs.{needs}
 use Rattle.radix.proofs.recode.as_radix_16.Statement.{statement}
 use Rattle.radix.proofs.recode.as_radix_16.Tie as tie
 
@@ -22,13 +23,17 @@ returns c = let bytes = c .before .before .before .args .s .bytes in refusing by
 nibbles-requires : tie.Need-nibbles-requires
 nibbles-requires c κs = search needs
 
+reply-requires : tie.Need-reply-requires
+reply-requires c κs = search needs
+
 returns-2 : tie.Need-returns-2
 unfolding row
 returns-2 c =
-    let bytes = c .before .before .before .args .s .bytes in
+    let bytes = c .before .before .before .before .args .s .bytes in
     let byte : (k : ℕ) → Fits w8 (getD bytes k 0) = λ k. search needs in
-    promised bytes 4 (c .nibbles .result) (record { long = search needs; small = λ k. byte k .fits }) (due-16 bytes (omega arith)) (c .nibbles .ensures)
+    promised bytes 4 64 (c .before .nibbles .result) (record { long = search needs; small = λ k. byte k .fits }) (due-16 bytes (omega arith)) refl (c .before .nibbles .ensures) (c .reply .ensures)
 
 pub as-radix-16-spec : {M : Type 1} → statement M
 as-radix-16-spec =
-    tie.close (tie.spec array-read-if1 refused-requires returns nibbles-requires returns-2)
+    tie.close
+    (tie.spec array-read-if1 refused-requires returns nibbles-requires reply-requires returns-2)

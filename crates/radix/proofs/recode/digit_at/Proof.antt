@@ -2,10 +2,10 @@
 use mathlib.Core.Path.{_≡_}
 use Prim.Native.Nat.{_-_, _*_, _/_, _%_, _^_}
 use native.Mathlib.Omega.{arith}
+use borrow.Author.Needs.{needs}
 use Rattle.numbers.proofs.Windows.{one-shl}
 use Rattle.rules.specs.Integer.{integer}
 use Rattle.radix.proofs.Carries.{centred-window}
-use borrow.Author.Needs.{needs}
 use Rattle.radix.proofs.recode.digit_at.Statement.{statement}
 use Rattle.radix.proofs.recode.digit_at.Tie as tie
 

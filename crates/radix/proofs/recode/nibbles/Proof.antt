@@ -1,18 +1,19 @@
 -- `radix::recode::nibbles` meets its contract. The loop's invariant: the digits of the bytes below k and their carry are made, and above them all is 0. Assumes nothing.
-use mathlib.Core.Path.{_≡_, refl, sym, _∙_}
+use mathlib.Core.Path.{_≡_, refl, sym, ap, _∙_}
 use Prim.Native.Nat.{ℕ, _+_, _-_, _*_, _/_, _≤_}
 use native.Mathlib.Omega.{arith}
 use borrow.Author.Needs.{needs}
+use lib.ListN.{getD, set}
+use lib.IntN.{ℤ}
 use mir.Syntax.{w8}
 use mir.Val.{toZ, ofZ, Fits}
-use lib.ListN.{getD, set}
-use Rattle.radix.proofs.Halves.{low-half, high-half}
+use mir.Facts.{toZ-pos}
 use Rattle.rules.specs.Integer.{integer, Bytes}
+use Rattle.rules.specs.Widths.{row}
+use Rattle.scalar.proofs.TopByte.{byte-31}
+use Rattle.radix.proofs.Halves.{low-half, high-half}
 use Rattle.radix.proofs.Carries.{Recoding, recoding-none, recoding-more}
 use Rattle.radix.proofs.Rows.{Whole, whole}
-use Rattle.scalar.proofs.TopByte.{byte-31}
-use mir.Facts.{toZ-pos}
-use Rattle.rules.specs.Widths.{row}
 use Rattle.radix.proofs.recode.nibbles.Statement.{statement}
 use Rattle.radix.proofs.recode.nibbles.Tie as tie
 
@@ -111,7 +112,11 @@ array-set-from-digits-4 c = search needs
 
 returns : tie.Need-returns Inv-loop μ-loop
 unfolding row
-returns c = rw (toZ-pos w8 {n = getD (c .before .before .before .before .before .args .t1) 31 0 / 16 + c .before .before .centre .result .carry} (omega (arith, last c .small))) (last c .string)
+returns c =
+    let bytes = c .before .before .before .before .before .args .t1 in
+    let loop = c .before .before .before .before .loop in
+    let made = c .before .before .centre .result in
+    ap (λ (z : ℤ). set (set (loop .digits) 62 (toZ w8 (ofZ w8 (made .digit)))) 63 z) (toZ-pos w8 {n = getD bytes 31 0 / 16 + made .carry} (omega (arith, last c .small))) ∙ last c .string
 
 pub nibbles-spec : {M : Type 1} → statement M
 nibbles-spec =

@@ -1,9 +1,9 @@
 -- `radix::recode::two_digits` meets its contract: each half of a byte with a carry is at most 16, which `centre` takes. Assumes nothing.
 use mathlib.Core.Path.{_≡_, _∙_}
 use native.Mathlib.Omega.{arith}
+use borrow.Author.Needs.{needs}
 use mir.Syntax.{w8}
 use mir.Val.{toZ, ofZ}
-use borrow.Author.Needs.{needs}
 use Rattle.radix.proofs.recode.two_digits.Statement.{statement}
 use Rattle.radix.proofs.recode.two_digits.Tie as tie
 
