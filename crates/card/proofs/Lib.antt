@@ -1,0 +1,4 @@
+pub mod Copies
+pub mod Replies
+pub mod Tallies
+pub mod CardLaws

@@ -1,0 +1,73 @@
+// Slices to arrays and back.
+ghost use mathlib.Core.Path.{_≡_};
+ghost use mathlib.Core.List.{map};
+ghost use lib.ListN.{length};
+ghost use Rattle.scalar.specs.BitNumber.{bitNumber};
+ghost use Rattle.card.specs.Bits.{isSet};
+
+// 32 lent bytes as an array.
+pub fn array_of(src: &[u8]) -> [u8; 32]
+    requires { ⌜ length (now src) ≡ 32 ⌝ }
+    ensures { λ r. ⌜ r ≡ now (src .entry) ⌝ }
+{
+    let mut out = [0u8; 32];
+    for i in 0..32 {
+        out[i] = src[i];
+    }
+    out
+}
+
+// 256 lent bytes as bits: not 0 is true.
+pub fn bits_of(src: &[u8]) -> [bool; 256]
+    requires { ⌜ length (now src) ≡ 256 ⌝ }
+    ensures { λ r. ⌜ r ≡ map isSet (now (src .entry)) ⌝ }
+{
+    let mut out = [false; 256];
+    for i in 0..256 {
+        out[i] = src[i] != 0;
+    }
+    out
+}
+
+// Bytes into a lent slice of their length.
+pub fn put_bytes(src: &[u8], dst: &mut [u8])
+    requires { ⌜ length (now src) ≡ length (now dst) ⌝ }
+    ensures { λ _. ⌜ now (dst .exit) ≡ now (src .entry) ⌝ }
+{
+    let mut i: usize = 0;
+    while i < dst.len() {
+        dst[i] = src[i];
+        i += 1;
+    }
+}
+
+// Digits into a lent slice of their length.
+pub fn put_digits(src: &[i8], dst: &mut [i8])
+    requires { ⌜ length (now src) ≡ length (now dst) ⌝ }
+    ensures { λ _. ⌜ now (dst .exit) ≡ now (src .entry) ⌝ }
+{
+    let mut i: usize = 0;
+    while i < dst.len() {
+        dst[i] = src[i];
+        i += 1;
+    }
+}
+
+// A bit as a byte.
+pub fn byte_of(bit: bool) -> u8
+    ensures { λ r. ⌜ r ≡ bitNumber bit ⌝ }
+{
+    if bit { 1 } else { 0 }
+}
+
+// Bits into a lent slice of their length, as 0 and 1.
+pub fn put_bits(src: &[bool], dst: &mut [u8])
+    requires { ⌜ length (now src) ≡ length (now dst) ⌝ }
+    ensures { λ _. ⌜ now (dst .exit) ≡ map bitNumber (now (src .entry)) ⌝ }
+{
+    let mut i: usize = 0;
+    while i < dst.len() {
+        dst[i] = byte_of(src[i]);
+        i += 1;
+    }
+}

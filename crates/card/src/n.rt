@@ -1,0 +1,68 @@
+// Form N: recode, test and read.
+use crate::copy::array_of;
+use crate::copy::put_bytes;
+use crate::copy::put_digits;
+use crate::report::code_of;
+use crate::report::put_tally;
+use naf::read::read;
+use naf::read::test;
+use naf::recode::non_adjacent_form;
+use scalar::Scalar;
+ghost use Rattle.rules.specs.Forms.{cardN};
+ghost use Rattle.card.specs.Forms.{CardNRecode, CardTest, CardRead};
+
+#[no_mangle]
+pub extern "C" fn card_n_recode(
+    scalar: &[u8],
+    width: usize,
+    digits: &mut [i8],
+    tally: &mut [u32],
+) -> u64
+    ensures { λ r. ⌜
+        CardNRecode (now (scalar .entry)) width
+        (now (digits .entry)) (now (tally .entry)) (now (digits .exit)) (now (tally .exit)) r ⌝ }
+{
+    if scalar.len() != 32 {
+        return 1;
+    }
+    if digits.len() != 256 {
+        return 1;
+    }
+    if tally.len() != 2 {
+        return 1;
+    }
+    let bytes = array_of(scalar);
+    let made = non_adjacent_form(Scalar { bytes }, width);
+    let verdict = made.verdict;
+    if verdict.number() != 0 {
+        return code_of(verdict);
+    }
+    let string = made.digits;
+    put_digits(&string, digits);
+    put_tally(tally, made.count, made.additions);
+    0
+}
+
+#[no_mangle]
+pub extern "C" fn card_n_test(digits: &[i8], width: usize) -> u64
+    ensures { λ r. ⌜ CardTest (cardN width) (now (digits .entry)) r ⌝ }
+{
+    code_of(test(digits, width))
+}
+
+#[no_mangle]
+pub extern "C" fn card_n_read(digits: &[i8], width: usize, out: &mut [u8]) -> u64
+    ensures { λ r. ⌜ CardRead (cardN width) (now (digits .entry)) (now (out .entry)) (now (out .exit)) r ⌝ }
+{
+    if out.len() != 32 {
+        return 1;
+    }
+    let found = read(digits, width);
+    let fault = found.verdict;
+    if fault.number() != 0 {
+        return code_of(fault);
+    }
+    let bytes = found.scalar.bytes;
+    put_bytes(&bytes, out);
+    0
+}

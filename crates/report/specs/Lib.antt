@@ -1,0 +1,5 @@
+pub mod Ascii
+pub mod Text
+pub mod Put
+pub mod Report
+pub mod Written

@@ -1,0 +1,65 @@
+-- 01, "The program": the whole report of an input. Assumes nothing.
+use Prim.Native.Nat.{ℕ, _-_}
+use Prim.Native.Char.{code}
+use mathlib.Core.Path.{_≡_}
+use mathlib.Core.Logic.{_≢_}
+use mathlib.Core.Bool.{cond}
+use mathlib.Core.List.{List, _++_}
+use lib.Dec.{eqb}
+use lib.ListN.{length, getD, drop, replicate}
+use lib.IntN.{ℤ}
+use Rattle.rules.specs.declared.Verdict.{Verdict}
+use Rattle.rules.specs.declared.Verdict.the-variants.{WrongLength, WrongForm}
+use Rattle.rules.specs.Verdicts.{number}
+use Rattle.naf.specs.NonAdjacentForm.{dueN, RecodesN}
+use Rattle.radix.specs.RadixForm.{dueR, RecodesR}
+use Rattle.report.specs.Text.{fixedLine, formLine, digitLines, refusedLine}
+
+-- The input: the form letter, the width as a byte, and the scalar.
+abbrev pub letterOf : List ℕ → ℕ
+letterOf input = getD input 0 0
+
+abbrev pub widthOf : List ℕ → ℕ
+widthOf input = getD input 1 0
+
+abbrev pub scalarOf : List ℕ → List ℕ
+scalarOf input = drop 2 input
+
+abbrev pub letterN : ℕ
+letterN = code "N"
+
+abbrev pub letterR : ℕ
+letterR = code "R"
+
+-- After the fixed line: the form line and the digits, or the one line of a refusal.
+abbrev pub answerLines : ℕ → ℕ → Verdict → ℕ → List ℤ → List ℕ
+answerLines letter w v count ds = cond (eqb (number v) 0) (formLine letter w count ++ digitLines 0 ds) (refusedLine v)
+
+-- The lines of a form's recoding, whatever its recoder's promise allows.
+pub record LinesN (bytes : List ℕ) (w : ℕ) (lines : List ℕ) : Type 0 where
+  pub digits : List ℤ
+  pub counted : ℕ
+  pub added : ℕ
+  pub recodes : RecodesN bytes w (dueN bytes w) digits counted added
+  pub are : lines ≡ answerLines letterN w (dueN bytes w) counted digits
+
+pub record LinesR (bytes : List ℕ) (w : ℕ) (lines : List ℕ) : Type 0 where
+  pub digits : List ℤ
+  pub counted : ℕ
+  pub added : ℕ
+  pub recodes : RecodesR bytes w (dueR bytes w) digits counted added
+  pub are : lines ≡ answerLines letterR w (dueR bytes w) counted digits
+
+-- The lines after the fixed one, tried in the order 1, 2, and then the form's 3 and 4.
+pub record Lines (input lines : List ℕ) : Type 0 where
+  pub wrong-length : length input ≢ 34 → lines ≡ refusedLine WrongLength
+  pub wrong-form : length input ≡ 34 → letterOf input ≢ letterN → letterOf input ≢ letterR → lines ≡ refusedLine WrongForm
+  pub form-n : length input ≡ 34 → letterOf input ≡ letterN → LinesN (scalarOf input) (widthOf input) lines
+  pub form-r : length input ≡ 34 → letterOf input ≡ letterR → LinesR (scalarOf input) (widthOf input) lines
+
+-- The report: the fixed line and the lines after it, in an array whose bytes past the text are 0.
+pub record Reports (input bytes : List ℕ) (len : ℕ) : Type 0 where
+  pub lines : List ℕ
+  pub says : Lines input lines
+  pub text : bytes ≡ (fixedLine ++ lines) ++ replicate (2560 - len) 0
+  pub long : len ≡ length (fixedLine ++ lines)
