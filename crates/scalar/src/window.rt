@@ -1,6 +1,6 @@
 // A window of bits: what the recoders read.
 ghost use mathlib.Core.Path.{_≡_};
-ghost use Prim.Native.Nat.{_<_};
+ghost use Prim.Native.Nat.{_+_, _*_, _^_, _<_};
 ghost use lib.ListN.{getD};
 ghost use Rattle.scalar.specs.Window.{Windowed};
 
@@ -18,6 +18,18 @@ fn byte_at(bytes: &[u8], i: usize) -> u32
     if i < bytes.len() { wide(bytes[i]) } else { 0 }
 }
 
+// Two neighbouring bytes as one number, the first of them the lower.
+fn pair_at(bytes: &[u8], i: usize) -> u32
+    requires { ⌜ i < 2 ^ 63 ⌝ }
+    ensures { λ r. ⌜ (r ≡ getD (now (bytes .entry)) i 0 + 256 * getD (now (bytes .entry)) (i + 1) 0) × (r < 65536) ⌝ }
+{
+    if i + 1 < bytes.len() {
+        wide(bytes[i]) + 256 * wide(bytes[i + 1])
+    } else {
+        byte_at(bytes, i)
+    }
+}
+
 // The w bits from place `at` up, from two neighbouring bytes. More than 8 bits are not read: they give 0.
 pub fn window(bytes: &[u8], at: usize, w: u32) -> u32
     ensures { λ r. ⌜ Windowed (now (bytes .entry)) at w r ⌝ }
@@ -25,8 +37,5 @@ pub fn window(bytes: &[u8], at: usize, w: u32) -> u32
     if 8 < w {
         return 0;
     }
-    let i = at / 8;
-    let b = at % 8;
-    let v = byte_at(bytes, i) + 256 * byte_at(bytes, i + 1);
-    (v >> b) % (1 << w)
+    (pair_at(bytes, at / 8) >> (at % 8)) % (1 << w)
 }

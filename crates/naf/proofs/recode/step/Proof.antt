@@ -34,27 +34,21 @@ returns c =
       bit = h .1;
     }
 
-mul-if2 : tie.Need-mul-if2
-mul-if2 c = search needs
-
-returns-2 : tie.Need-returns-2
-returns-2 c = absurd (omega (arith, below (c .before .before)))
-
 centre-requires : tie.Need-centre-requires
 centre-requires c κs = search needs
 
-returns-3 : tie.Need-returns-3
-returns-3 c =
-    let h = c .before .before .before .before .before .before .pre in
-    let e = c .before .before .before .before .window .ensures .narrow (h .0 .most) in
+returns-2 : tie.Need-returns-2
+returns-2 c =
+    let h = c .before .before .before .before .before .pre in
+    let e = c .before .before .before .window .ensures .narrow (h .0 .most) in
     let s = c .before .centre in
-    let i = s .ensures .inside (h .0 .small) (below (c .before .before .before .before)) in
+    let i = s .ensures .inside (h .0 .small) (below (c .before .before .before)) in
     let back : toZ w8 (ofZ w8 (s .result .digit)) ≡ s .result .digit = search needs in
     record {
       skips = λ f. let z : _≡_ {A = ℕ} 0 1 = cc in absurd (omega arith);
-      takes = λ t. (rw e at (c .before .before .before .if1 .left), back ∙ rw (e, h .0 .power) at (i .0), rw (e, h .0 .power) at (i .1));
+      takes = λ t. (rw e at (c .before .before .if1 .left), back ∙ rw (e, h .0 .power) at (i .0), rw (e, h .0 .power) at (i .1));
       bit = s .ensures .bit;
     }
 
 pub step-spec : {M : Type 1} → statement M
-step-spec = tie.close (tie.spec cast-window window-requires add-x returns mul-if2 returns-2 centre-requires returns-3)
+step-spec = tie.close (tie.spec cast-window window-requires add-x returns centre-requires returns-2)

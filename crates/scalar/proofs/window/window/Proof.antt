@@ -9,20 +9,8 @@ use Rattle.scalar.proofs.window.window.Tie as tie
 returns : tie.Need-returns
 returns c = search needs
 
-byte-at-requires : tie.Need-byte-at-requires
-byte-at-requires c κs = search needs
-
-add-byte-at : tie.Need-add-byte-at
-add-byte-at c = search needs
-
-byte-at-requires-2 : tie.Need-byte-at-requires-2
-byte-at-requires-2 c κs = search needs
-
-mul-v : tie.Need-mul-v
-mul-v c = search needs
-
-add-v : tie.Need-add-v
-add-v c = search needs
+pair-at-requires : tie.Need-pair-at-requires
+pair-at-requires c κs = search needs
 
 cast-result : tie.Need-cast-result
 cast-result c = search needs
@@ -34,26 +22,13 @@ shl-result : tie.Need-shl-result
 shl-result c = search needs
 
 rem-result : tie.Need-rem-result
-rem-result c = one-shl-pos 32 (c .before .before .before .before .args .w) (omega arith)
+rem-result c = one-shl-pos 32 (c .before .before .before .args .w) (omega arith)
 
 returns-2 : tie.Need-returns-2
 returns-2 c =
-    let a = c .before .before .before .before .args in
-    rw (one-shl 32 (a .w) (omega arith), c .before .byte-at .ensures .0, c .byte-at2 .ensures .0)
-    (from-two (a .bytes .now) (a .at) (a .w) (λ k. c .before .before .before .shared-slice-known .given k .fits) (omega arith))
+    let a = c .before .before .before .args in
+    rw (one-shl 32 (a .w) (omega arith), c .pair-at .ensures .0)
+    (from-two (a .bytes .now) (a .at) (a .w) (λ k. c .before .before .shared-slice-known .given k .fits) (omega arith))
 
 pub window-spec : {M : Type 1} → statement M
-window-spec =
-    tie.close
-    (tie.spec
-    returns
-    byte-at-requires
-    add-byte-at
-    byte-at-requires-2
-    mul-v
-    add-v
-    cast-result
-    shr-result
-    shl-result
-    rem-result
-    returns-2)
+window-spec = tie.close (tie.spec returns pair-at-requires cast-result shr-result shl-result rem-result returns-2)
