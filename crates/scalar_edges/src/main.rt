@@ -2,16 +2,6 @@
 // The file `stdout` beside src/ was worked out by tools/expect-scalar-edges, in Python integers, without this library.
 use scalar::Scalar;
 
-// The bits of a scalar as 256 characters, the lowest first.
-fn print_bits(b: &[bool]) {
-    let mut i: usize = 0;
-    while i < b.len() {
-        show::bit(b[i]);
-        i += 1;
-    }
-    show::text(b"");
-}
-
 // Every function on one scalar: reduced, odd or not, its bits, and those read back.
 fn one_scalar(name: &[u8], bytes: [u8; 32]) {
     show::text(name);
@@ -22,7 +12,7 @@ fn one_scalar(name: &[u8], bytes: [u8; 32]) {
     show::bit(s.is_odd());
     show::text(b"");
     let bits = scalar::bits::bits_le(s);
-    print_bits(&bits);
+    show::bits(&bits);
     let back = scalar::bits::from_bits_le(bits);
     let k = back.bytes;
     show::bytes(&k);

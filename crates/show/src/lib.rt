@@ -34,6 +34,16 @@ pub fn bit(b: bool) {
     }
 }
 
+// Bits as 0 and 1, the lowest first, then a space.
+pub fn bits(b: &[bool]) {
+    let mut i: usize = 0;
+    while i < b.len() {
+        bit(b[i]);
+        i += 1;
+    }
+    text(b"");
+}
+
 // One byte as two hexadecimal digits.
 fn byte(b: u8) {
     io::print_hex(STDOUT_FILENO, b as u64, 2);

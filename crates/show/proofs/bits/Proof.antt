@@ -1,9 +1,9 @@
--- `print_bits` ends and stays inside the slice. Assumes nothing.
+-- `bits` ends and stays inside the slice. Assumes nothing.
 use Prim.Native.Nat.{_≤_, _-_}
 use lib.ListN.{length}
 use borrow.Author.Needs.{needs}
-use Rattle.scalar_edges.proofs.print_bits.Statement.{statement}
-use Rattle.scalar_edges.proofs.print_bits.Tie as tie
+use Rattle.show.proofs.bits.Statement.{statement}
+use Rattle.show.proofs.bits.Tie as tie
 
 abbrev Inv-loop : tie.InvT-loop
 Inv-loop b i₀ t3 i = i ≤ length b
@@ -38,8 +38,8 @@ text-requires c κs = search needs
 returns : tie.Need-returns Inv-loop μ-loop
 returns c = search needs
 
-pub print-bits-spec : {M : Type 1} → statement M
-print-bits-spec =
+pub bits-spec : {M : Type 1} → statement M
+bits-spec =
     tie.close
     (tie.spec
     Inv-loop
