@@ -15,8 +15,8 @@ use Rattle.rules.proofs.Promises.{done-or-refused}
 use Rattle.rules.proofs.Reading.{reads-determined}
 use Rattle.scalar.proofs.Reduced.{from-bits-determined}
 use Rattle.scalar.proofs.Selects.{select-determined}
-use Rattle.scalar.proofs.BitLaws.{from-bits-le-determined}
-use Rattle.scalar.proofs.WordLaws.{read-determined, write-determined}
+use Rattle.bits.proofs.BitLaws.{from-bits-le-determined}
+use Rattle.words.proofs.WordLaws.{read-determined, write-determined}
 use Rattle.naf.specs.NonAdjacentForm.{dueN, RecodesN}
 use Rattle.naf.proofs.NafPromise.{naf-determined}
 use Rattle.radix.specs.RadixForm.{dueR, RecodesR}

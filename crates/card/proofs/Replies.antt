@@ -17,8 +17,8 @@ use Rattle.rules.specs.Forms.{Form}
 use Rattle.rules.specs.Test.{verdict}
 use Rattle.rules.specs.Refusals.{GivenIf}
 use Rattle.rules.proofs.Refusals.{verdict-exactly}
-use Rattle.scalar.specs.BitNumber.{bitNumber}
-use Rattle.scalar.specs.Bits.{BitsOf}
+use Rattle.bits.specs.BitNumber.{bitNumber}
+use Rattle.bits.specs.Bits.{BitsOf}
 use Rattle.scalar.specs.ConditionalSelect.{Selects}
 use Rattle.card.specs.Code.{code}
 use Rattle.card.specs.Answers.{Answers}

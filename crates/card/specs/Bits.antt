@@ -8,8 +8,8 @@ use lib.ListN.{length, getD}
 use Rattle.rules.specs.declared.Verdict.the-variants.{WrongLength}
 use Rattle.rules.specs.Verdicts.{unless}
 use Rattle.rules.specs.Integer.{integer, Bytes}
-use Rattle.scalar.specs.BitNumber.{bitNumber}
-use Rattle.scalar.specs.Bits.{binaryDigit, BitsOf}
+use Rattle.bits.specs.BitNumber.{bitNumber}
+use Rattle.bits.specs.Bits.{binaryDigit, BitsOf}
 use Rattle.card.specs.Answers.{sized, Answers}
 
 -- 256 bytes: byte i is the integer's binary digit i, as 0 or 1.

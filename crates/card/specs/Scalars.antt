@@ -11,7 +11,7 @@ use Rattle.rules.specs.Integer.{Bytes}
 use Rattle.scalar.specs.FromBits.{Reduced}
 use Rattle.scalar.specs.ConditionalSelect.{Selects}
 use Rattle.scalar.specs.IsOdd.{oddInteger}
-use Rattle.scalar.specs.BitNumber.{bitNumber}
+use Rattle.bits.specs.BitNumber.{bitNumber}
 use Rattle.card.specs.Answers.{sized, Answers}
 
 -- `card_from_bits`: 32 bytes, whose integer is that of `bytes` modulo 2^255.

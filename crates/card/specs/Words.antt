@@ -4,7 +4,7 @@ use mathlib.Core.List.{List}
 use lib.ListN.{length}
 use Rattle.rules.specs.declared.Verdict.the-variants.{Done, WrongLength}
 use Rattle.rules.specs.Verdicts.{unless}
-use Rattle.scalar.specs.Words.{WordsRead, WordsWritten}
+use Rattle.words.specs.Words.{WordsRead, WordsWritten}
 use Rattle.card.specs.Answers.{sized, Answers}
 
 -- `card_read_words`: each word is read; there are 8 bytes for each word lent.

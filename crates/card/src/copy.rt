@@ -1,8 +1,9 @@
 // Slices to arrays and back.
+use scalar::slice::from_slice;
 ghost use mathlib.Core.Path.{_≡_};
 ghost use mathlib.Core.List.{map};
 ghost use lib.ListN.{length};
-ghost use Rattle.scalar.specs.BitNumber.{bitNumber};
+ghost use Rattle.bits.specs.BitNumber.{bitNumber};
 ghost use Rattle.card.specs.Bits.{isSet};
 
 // 32 lent bytes as an array.
@@ -10,11 +11,7 @@ pub fn array_of(src: &[u8]) -> [u8; 32]
     requires { ⌜ length (now src) ≡ 32 ⌝ }
     ensures { λ r. ⌜ r ≡ now (src .entry) ⌝ }
 {
-    let mut out = [0u8; 32];
-    for i in 0..32 {
-        out[i] = src[i];
-    }
-    out
+    from_slice(src).scalar.bytes
 }
 
 // 256 lent bytes as bits: not 0 is true.

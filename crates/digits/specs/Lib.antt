@@ -1,4 +1,2 @@
 pub mod Centre
 pub mod Half
-pub mod Adds
-pub mod SumRead

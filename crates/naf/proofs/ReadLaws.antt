@@ -16,7 +16,7 @@ use Rattle.rules.specs.Promises.{Reads}
 use Rattle.rules.proofs.Refusals.{verdict-done}
 use Rattle.rules.proofs.Reading.{reads-summed, round-trip}
 use Rattle.scalar.proofs.TopByte.{byte-31}
-use Rattle.digits.specs.SumRead.{SumRead}
+use Rattle.sum.specs.SumRead.{SumRead}
 use Rattle.naf.specs.NonAdjacentForm.{RecodesN, dueN}
 use Rattle.naf.proofs.Due.{done-takes}
 use Rattle.naf.proofs.NafPromise.{naf-passes}

@@ -1,10 +1,10 @@
 // The acceptance test of N's strings, and the reader.
 use digits::half::half_of;
 use digits::magnitude::magnitude;
-use digits::sum::Read;
-use digits::sum::read_sum;
-use digits::sum::refused;
 use rules::Verdict;
+use sum::Read;
+use sum::read_sum;
+use sum::refused;
 ghost use mathlib.Core.Path.{_≡_};
 ghost use mathlib.Core.Bool.{_&&_};
 ghost use Prim.Native.Nat.{ℕ, _-_, _%_, _^_, _≤_};

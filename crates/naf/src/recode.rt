@@ -3,7 +3,7 @@ use digits::centre::centre;
 use digits::half::half_of;
 use rules::Verdict;
 use scalar::Scalar;
-use scalar::window::window;
+use window::window;
 ghost use mathlib.Core.Path.{_≡_};
 ghost use Prim.Native.Nat.{_+_, _-_, _/_, _%_, _^_, _≤_};
 ghost use Rattle.rules.specs.Integer.{integer};

@@ -48,7 +48,7 @@ carry-bit w x zero = omega arith
 carry-bit w x (suc i) = carried-bit (2 ^ (w - 1)) (seen w x i)
 
 -- the lowest digit of what is left, and what is left above it
-pub record Turn (w x i : ℕ) : Type 0 where
+pub record CarryTurn (w x i : ℕ) : Type 0 where
   pub digit : radixDigit w (left w x i) ≡ centred (2 ^ (w - 1)) (seen w x i)
   pub next : radixNext w (left w x i) ≡ left w x (suc i)
 
@@ -64,7 +64,7 @@ module _ (w x : ℕ) (w⁺ : 0 < w) where
   pub seen-fits : (i : ℕ) → seen w x i ≤ 2 ^ w
   seen-fits i = omega (arith, mod-lt (x / 2 ^ (w * i)) {m = 2 ^ w} (pow-pos w), carry-bit w x i)
 
-  pub turn : (i : ℕ) → Turn w x i
+  pub turn : (i : ℕ) → CarryTurn w x i
   unfolding carryInto
   turn i =
       let h = 2 ^ (w - 1) in

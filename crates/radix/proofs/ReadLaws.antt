@@ -26,7 +26,7 @@ use Rattle.rules.proofs.FirstFault.{first-keeps}
 use Rattle.rules.proofs.Refusals.{verdict-done, refused-3}
 use Rattle.rules.proofs.Reading.{reads-summed, round-trip}
 use Rattle.rules.proofs.Table.{row-fits, width-between}
-use Rattle.digits.specs.SumRead.{SumRead, summable, endOf}
+use Rattle.sum.specs.SumRead.{SumRead, summable, endOf}
 use Rattle.radix.specs.RadixForm.{dueR, RecodesR}
 use Rattle.radix.proofs.Rows.{at-widths}
 use Rattle.radix.proofs.Front.{front-sum, past-zero}

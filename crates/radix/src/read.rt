@@ -2,10 +2,10 @@
 use crate::shape::shape;
 use digits::half::half_of;
 use digits::magnitude::offset;
-use digits::sum::Read;
-use digits::sum::read_sum;
-use digits::sum::refused;
 use rules::Verdict;
+use sum::Read;
+use sum::read_sum;
+use sum::refused;
 ghost use mathlib.Core.Path.{_≡_};
 ghost use mathlib.Core.Bool.{_&&_};
 ghost use Prim.Native.Nat.{_-_, _^_, _<_, _≤_};

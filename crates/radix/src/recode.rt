@@ -4,7 +4,7 @@ use digits::centre::Centred;
 use digits::centre::centre;
 use rules::Verdict;
 use scalar::Scalar;
-use scalar::window::window;
+use window::window;
 ghost use mathlib.Core.Path.{_≡_};
 ghost use Prim.Native.Nat.{_+_, _-_, _/_, _%_, _^_, _<_, _≤_};
 ghost use lib.ListN.{getD, replicate};

@@ -3,7 +3,3 @@ pub mod Reduced
 pub mod Selects
 pub mod Zeroized
 pub mod FromSlices
-pub mod BitLaws
-pub mod WindowLaws
-pub mod WordLaws
-pub mod WordSteps

@@ -1,9 +1,6 @@
 // The scalar: 32 bytes that stand for an integer, and what needs no digits.
-pub mod bits;
 pub mod select;
 pub mod slice;
-pub mod window;
-pub mod words;
 pub mod zeroize;
 
 ghost use mathlib.Core.Path.{_≡_};

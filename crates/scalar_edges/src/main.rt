@@ -11,9 +11,9 @@ fn one_scalar(name: &[u8], bytes: [u8; 32]) {
     let s = Scalar { bytes };
     show::bit(s.is_odd());
     show::text(b"");
-    let bits = scalar::bits::bits_le(s);
+    let bits = bits::bits_le(s);
     show::bits(&bits);
-    let back = scalar::bits::from_bits_le(bits);
+    let back = bits::from_bits_le(bits);
     let k = back.bytes;
     show::bytes(&k);
     show::end();
@@ -78,7 +78,7 @@ fn read_part(src: &[u8], n: usize, dst: &mut [u64], k: usize) {
     show::text(b"read");
     show::number(n as u64);
     show::number(k as u64);
-    let v = scalar::words::read_le_u64_into(&src[..n], &mut dst[..k]);
+    let v = words::read_le_u64_into(&src[..n], &mut dst[..k]);
     show::verdict(v);
     show::words(dst);
     show::end();
@@ -135,7 +135,7 @@ fn write_part(src: &[u64], k: usize, dst: &mut [u8], n: usize) {
     show::text(b"write");
     show::number(k as u64);
     show::number(n as u64);
-    let v = scalar::words::write_le_u64_into(&src[..k], &mut dst[..n]);
+    let v = words::write_le_u64_into(&src[..k], &mut dst[..n]);
     show::verdict(v);
     show::bytes(dst);
     show::end();
@@ -158,7 +158,7 @@ fn original() {
     let one = [0xFEu8, 0xEF, 0x10, 0x01, 0x1F, 0xF1, 0x0F, 0xF0];
     let mut w = [0u64; 1];
     show::text(b"original");
-    show::verdict(scalar::words::read_le_u64_into(&one, &mut w));
+    show::verdict(words::read_le_u64_into(&one, &mut w));
     show::words(&w);
     show::end();
     let two = [
@@ -181,7 +181,7 @@ fn original() {
     ];
     let mut x = [0u64; 2];
     show::text(b"original");
-    show::verdict(scalar::words::read_le_u64_into(&two, &mut x));
+    show::verdict(words::read_le_u64_into(&two, &mut x));
     show::words(&x);
     show::end();
 }

@@ -56,7 +56,7 @@ fn from_bits(bytes: [u8; 32]) {
 }
 
 fn bits(s: Scalar) {
-    let b = scalar::bits::bits_le(s);
+    let b = bits::bits_le(s);
     show::bits(&b);
 }
 
@@ -64,7 +64,7 @@ fn bits(s: Scalar) {
 fn words(bytes: [u8; 32]) {
     let src = bytes;
     let mut w = [0u64; 4];
-    show::verdict(scalar::words::read_le_u64_into(&src, &mut w));
+    show::verdict(words::read_le_u64_into(&src, &mut w));
     show::words(&w);
 }
 

@@ -8,7 +8,7 @@ use borrow.Author.Count.{below-none}
 use lib.ListN.{length, length-set, length-map, getD, List·getD-map}
 use mathlib.Core.Bool.{false}
 use Rattle.numbers.proofs.Filled.{Filled, filled-more}
-use Rattle.scalar.specs.BitNumber.{bitNumber}
+use Rattle.bits.specs.BitNumber.{bitNumber}
 use Rattle.card.proofs.Copies.{copied}
 use Rattle.card.proofs.copy.put_bits.Statement.{statement}
 use Rattle.card.proofs.copy.put_bits.Tie as tie

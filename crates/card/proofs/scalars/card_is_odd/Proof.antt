@@ -5,7 +5,7 @@ use Prim.Native.Nat.{ℕ}
 use native.Mathlib.Omega.{arith}
 use borrow.Author.Needs.{needs}
 use borrow.Author.Tests.{eq-eqb, ne-eqb}
-use Rattle.scalar.specs.BitNumber.{bitNumber}
+use Rattle.bits.specs.BitNumber.{bitNumber}
 use Rattle.scalar.specs.IsOdd.{oddInteger}
 use Rattle.card.proofs.Copies.{one-stored}
 use Rattle.card.proofs.Replies.{answers-short, answers-done}

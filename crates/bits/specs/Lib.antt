@@ -1,0 +1,2 @@
+pub mod BitNumber
+pub mod Bits
