@@ -13,6 +13,8 @@ use Rattle.rules.specs.declared.Verdict.the-variants.{Done}
 use Rattle.rules.specs.Integer.{integer, Bytes}
 use Rattle.rules.specs.Digits.{count, additions}
 use Rattle.rules.specs.Verdicts.{number}
+use Rattle.rules.specs.Forms.{cardN}
+use Rattle.rules.specs.Promises.{Recoded}
 use Rattle.rules.proofs.ZeroDigit.{replicate-zero}
 use Rattle.rules.proofs.Tally.{count-zero, none-nonzero}
 use Rattle.rules.proofs.RecoderN.{nafOf, recoded-n}
@@ -23,6 +25,12 @@ use Rattle.naf.proofs.Due.{due-done}
 -- what leaves the top place free
 doubled : (n x : ℕ) → 0 < n → x < 2 ^ (n - 1) → 2 * x ≤ 2 ^ n
 doubled n x n⁺ h = omega (arith, twice n n⁺)
+
+-- the string that the walk makes, whatever the width
+pub walked-string : (w x : ℕ) (ds : List ℤ) → 2 ≤ w → ds ≡ nafOf (w - 1) 256 x → x < 2 ^ 255 → Recoded (cardN w) x ds
+walked-string w x ds l e h =
+    let s = recoded-n 8 256 w x l (doubled 256 x (lit< tt) h) in
+    record { long = rw e (s .long); keeps = rw e (s .keeps); sums = rw e (s .sums) }
 
 module _ (bytes : List ℕ) (w : ℕ) {answer : Verdict} {digits : List ℤ} {counted added : ℕ} where
   pub refusal-keeps : (v : Verdict) → dueN bytes w ≡ v → number v ≢ 0
@@ -43,18 +51,12 @@ module _ (bytes : List ℕ) (w : ℕ) {answer : Verdict} {digits : List ℤ} {co
       }
 
   pub string-keeps : Bytes 32 bytes → 2 ≤ w → w ≤ 8 → getD bytes 31 0 ≤ 127
-      → (answer ≡ Done) × (digits ≡ nafOf (w - 1) 256 (integer bytes)) × (counted ≡ count digits) × (added ≡ additions digits) → RecodesN bytes w answer digits counted added
-  string-keeps b l m h r =
+      → (answer ≡ Done) × (counted ≡ count digits) × (added ≡ additions digits) → (integer bytes < 2 ^ 255 → Recoded (cardN w) (integer bytes) digits) → RecodesN bytes w answer digits counted added
+  string-keeps b l m h r f =
       let due = due-done bytes w l m h in
-      let s = recoded-n 8 256 w (integer bytes) l (doubled 256 (integer bytes) (lit< tt) (byte-31 b .0 h)) in
+      let s = f (byte-31 b .0 h) in
       record {
-        recodes = record {
-          answered = r .0 ∙ sym due;
-          long = rw (r .1) (s .long);
-          keeps = λ e. rw (r .1) (s .keeps);
-          sums = λ e. rw (r .1) (s .sums);
-          zeros = λ f. absurd (f due);
-        };
-        counts = r .2;
-        adds = r .3;
+        recodes = record { answered = r .0 ∙ sym due; long = s .long; keeps = λ _. s .keeps; sums = λ _. s .sums; zeros = λ no. absurd (no due) };
+        counts = r .1;
+        adds = r .2;
       }

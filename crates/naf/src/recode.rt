@@ -5,12 +5,13 @@ use rules::Verdict;
 use scalar::Scalar;
 use window::window;
 ghost use mathlib.Core.Path.{_≡_};
-ghost use Prim.Native.Nat.{_+_, _-_, _/_, _%_, _^_, _≤_};
+ghost use Prim.Native.Nat.{_+_, _/_, _%_, _^_, _<_, _≤_};
 ghost use Rattle.rules.specs.Integer.{integer};
 ghost use Rattle.rules.specs.Digits.{count, additions};
+ghost use Rattle.rules.specs.Forms.{cardN};
+ghost use Rattle.rules.specs.Promises.{Recoded};
 ghost use lib.ListN.{replicate};
 ghost use lib.IntN.{pos};
-ghost use Rattle.rules.proofs.RecoderN.{nafOf};
 ghost use Rattle.naf.specs.NonAdjacentForm.{RecodesN};
 ghost use Rattle.naf.specs.Turns.{StepN, HalfN};
 
@@ -54,7 +55,8 @@ fn step(bytes: &[u8], at: usize, carry: u32, w: usize, half: u32) -> Turn
 // From place 0 up: one place on where no digit stands, and past the window of a digit.
 fn recode(bytes: &[u8], w: usize, half: u32) -> NonAdjacent
     requires { ⌜ HalfN w half ⌝ }
-    ensures { λ r. ⌜ (r .verdict ≡ Verdict.Done) × (r .digits ≡ nafOf (w - 1) 256 (integer (now (bytes .entry)))) × (r .count ≡ count (r .digits)) × (r .additions ≡ additions (r .digits)) ⌝ }
+    ensures { λ r. ⌜ (r .verdict ≡ Verdict.Done) × (r .count ≡ count (r .digits)) × (r .additions ≡ additions (r .digits)) ⌝ }
+    ensures { λ r. ⌜ (integer (now (bytes .entry)) < 2 ^ 255 → Recoded (cardN w) (integer (now (bytes .entry))) (r .digits)) ⌝ }
 {
     let mut digits = [0i8; 256];
     let mut count: usize = 0;

@@ -1,9 +1,9 @@
 -- What the recoders of R promise: how a reply comes to keep it, that it fixes the reply and the string, and what the source said before it. Assumes nothing.
-use mathlib.Core.Path.{_≡_, refl, sym, ap, _∙_}
+use mathlib.Core.Path.{_≡_, sym, ap, _∙_}
 use mathlib.Core.Logic.{_≢_, by-cases}
 use mathlib.Core.Bool.{Bool, not, _||_}
 use mathlib.Core.List.{List}
-use Prim.Native.Nat.{ℕ, _-_, _^_, _≤_, _<_}
+use Prim.Native.Nat.{ℕ, _^_, _≤_, _<_}
 use native.Mathlib.Decide.{decLt, ℕ-discrete}
 use native.Mathlib.Omega.{arith}
 use borrow.Author.Tests.{ne-eqb}
@@ -19,11 +19,11 @@ use Rattle.rules.specs.Widths.{widthR, row}
 use Rattle.rules.specs.Forms.{digitR, cardR}
 use Rattle.rules.specs.Keeps.{Passes}
 use Rattle.rules.specs.Verdicts.{number, unless}
+use Rattle.rules.specs.Promises.{Recoded}
 use Rattle.rules.proofs.Verdicts.{orElse-done, done-orElse, refused-orElse, unless-held, unless-failed, unless-done}
 use Rattle.rules.proofs.Promises.{SumFixes, done-or-refused, recodes-determined}
 use Rattle.rules.proofs.Radix.{Between, digitR-before, unique-r}
-use Rattle.rules.proofs.RecoderR.{radixOf, RecodedR, recoded-r}
-use Rattle.rules.proofs.Table.{FromTo, row-fits, width-between}
+use Rattle.rules.proofs.Table.{FromTo, width-between}
 use Rattle.rules.proofs.Exactly.{passing, equal-digits-r}
 use Rattle.scalar.proofs.TopByte.{byte-31}
 use Rattle.radix.specs.RadixForm.{dueR, RecodesR}
@@ -70,23 +70,12 @@ due-too-wide bytes l = rw (done-orElse, unless-failed (room bytes 4) TooWide (no
 -- ---- replies that keep the promise
 
 module _ (bytes : List ℕ) (w : ℕ) where
-  -- the recoder's string of n digits, n being the row's
-  pub promised : (n : ℕ) (string : List ℤ) {answer : Verdict} {ds : List ℤ} {counted added : ℕ} → Bytes 32 bytes → dueR bytes w ≡ Done → n ≡ row w .digits → string ≡ radixOf w (64 - n) (n - 1) (integer bytes)
+  -- a string of the integer, and n, the row's number of digits
+  pub promised : (n : ℕ) (string : List ℤ) {answer : Verdict} {ds : List ℤ} {counted added : ℕ} → dueR bytes w ≡ Done → n ≡ row w .digits → Recoded (cardR w) (integer bytes) string
       → (answer ≡ Done) × (ds ≡ string) × (counted ≡ n) × (added ≡ 0) → RecodesR bytes w answer ds counted added
-  promised n string {ds} b d m e p =
-      let t = parts bytes w d .0 in
-      let f = row-fits w t in
-      let r : RecodedR w (row w .digits) (row w .top) (64 - row w .digits) (integer bytes) ds =
-      rw (p .1, e, m)
-      (recoded-r w (row w .digits) (row w .top) (64 - row w .digits) (integer bytes) (omega (arith, width-between 4 8 w t .low)) (omega (arith, f .several)) (omega (arith, f .ends, due-range bytes w b d))) in
+  promised n string d m s p =
       record {
-        recodes = record {
-          answered = p .0 ∙ sym d;
-          long = omega (arith, r .long, f .most);
-          keeps = λ _. record { digits = λ i l. r .digits i; spacing = λ i j l m u v. absurd (omega arith) };
-          sums = λ _. r .sums;
-          zeros = λ no. absurd (no d);
-        };
+        recodes = record { answered = p .0 ∙ sym d; long = rw (p .1) (s .long); keeps = λ _. rw (p .1) (s .keeps); sums = λ _. rw (p .1) (s .sums); zeros = λ no. absurd (no d) };
         counts = λ _. p .2 ∙ m;
         uncounted = λ no. absurd (no d);
         adds = p .3;

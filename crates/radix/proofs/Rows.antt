@@ -14,8 +14,10 @@ use lib.IntN.{ℤ, pos}
 use Rattle.numbers.specs.Centred.{carried}
 use Rattle.numbers.proofs.Positional.{size}
 use Rattle.rules.specs.Integer.{integer, Bytes}
-use Rattle.rules.proofs.RecoderR.{radixOf}
+use Rattle.rules.proofs.RecoderR.{radixOf, recoded-r}
 use Rattle.rules.specs.Widths.{widthR, row}
+use Rattle.rules.specs.Forms.{cardR}
+use Rattle.rules.specs.Promises.{Recoded}
 use Rattle.rules.proofs.Table.{row-fits, width-between}
 use Rattle.radix.proofs.Carries.{carryInto, seen, left, last-fits, Recoding, recoding-top, recoding-last}
 
@@ -68,7 +70,19 @@ top-span = at-widths (λ w. row w .top < 2 ^ w) (lit< tt) (lit< tt) (lit< tt) (l
 -- a loop's last digit fits, and makes the string whole
 pub record Whole (w x : ℕ) (ds : List ℤ) (last : ℕ) : Type 0 where
   pub small : last ≤ 16
-  pub string : set ds (row w .digits - 1) (pos last) ≡ radixOf w (64 - row w .digits) (row w .digits - 1) x
+  pub string : Recoded (cardR w) x (set ds (row w .digits - 1) (pos last))
+
+-- the string that the digits and the carries make, at every width
+made-string : (w x : ℕ) (ds : List ℤ) → T (widthR w) → x < 2 ^ row w .bits → ds ≡ radixOf w (64 - row w .digits) (row w .digits - 1) x → Recoded (cardR w) x ds
+made-string w x ds t h e =
+    let f = row-fits w t in
+    let r = recoded-r w (row w .digits) (row w .top) (64 - row w .digits) x (omega (arith, width-between 4 8 w t .low)) (omega (arith, f .several)) (omega (arith, f .ends)) in
+    rw e
+    (record {
+      long = omega (arith, r .long, f .most);
+      keeps = record { digits = λ i l. r .digits i; spacing = λ i j l m u v. absurd (omega arith) };
+      sums = r .sums;
+    })
 
 pub whole : (w x : ℕ) → T (widthR w) → x < 2 ^ row w .bits → (ds : List ℤ) (c window : ℕ) → Recoding w x (row w .digits - 1) ds c → window ≡ x / 2 ^ (w * (row w .digits - 1)) % 2 ^ w
     → Whole w x ds (window + c)
@@ -82,7 +96,7 @@ whole w x t h ds c window r e =
     let n : 63 - m ≡ 64 - row w .digits = omega (arith, f .several) in
     record {
       small = omega (arith, top-small w t, recoding-top w x w⁺ m ds c window (row w .top) l r e u (top-span w t));
-      string = recoding-last w x w⁺ m ds c window (row w .top) l r e u (top-span w t) ∙ rw n;
+      string = made-string w x _ t h (recoding-last w x w⁺ m ds c window (row w .top) l r e u (top-span w t) ∙ rw n);
     }
 
 -- ---- at widths 5, 6 and 7 the last digit stays below half the span

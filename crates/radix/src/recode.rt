@@ -12,7 +12,8 @@ ghost use lib.IntN.{pos};
 ghost use Rattle.numbers.specs.Centred.{centred, carried};
 ghost use Rattle.rules.specs.Integer.{integer};
 ghost use Rattle.rules.specs.Widths.{row};
-ghost use Rattle.rules.proofs.RecoderR.{radixOf};
+ghost use Rattle.rules.specs.Forms.{cardR};
+ghost use Rattle.rules.specs.Promises.{Recoded};
 ghost use Rattle.radix.specs.RadixForm.{RecodesR};
 
 // The digits and their number; R counts no additions.
@@ -69,7 +70,7 @@ fn two_digits(byte: u8, carry: u32) -> Pair
 // The 64 digits of radix 16; the last is not recentred.
 fn nibbles(bytes: [u8; 32]) -> [i8; 64]
     requires { ⌜ getD bytes 31 0 ≤ 127 ⌝ }
-    ensures { λ r. ⌜ r ≡ radixOf 4 0 63 (integer bytes) ⌝ }
+    ensures { λ r. ⌜ Recoded (cardR 4) (integer bytes) r ⌝ }
 {
     let mut digits = [0i8; 64];
     let mut carry: u32 = 0;
@@ -113,7 +114,7 @@ fn digit_at(bytes: &[u8], at: usize, w: usize, carry: u32) -> Centred
 // The digits of radix 2^w, n of them; the last is its window and the carry.
 fn windows(bytes: [u8; 32], w: usize, n: usize) -> [i8; 64]
     requires { ⌜ (4 < w) × (w ≤ 8) × (n ≡ row w .digits) ⌝ }
-    ensures { λ r. ⌜ r ≡ radixOf w (64 - n) (n - 1) (integer bytes) ⌝ }
+    ensures { λ r. ⌜ Recoded (cardR w) (integer bytes) r ⌝ }
 {
     let mut digits = [0i8; 64];
     let mut carry: u32 = 0;

@@ -13,6 +13,12 @@ use Rattle.rules.specs.Forms.{Form}
 use Rattle.rules.specs.Keeps.{Keeps}
 use Rattle.rules.specs.Test.{verdict}
 
+-- A string for the integer x: it has the form's length, keeps the rules and sums to x.
+pub record Recoded (F : Form) (x : ℕ) (digits : List ℤ) : Type 0 where
+  pub long : length digits ≡ F .long
+  pub keeps : Keeps F digits
+  pub sums : weighted (F .base) digits ≡ pos x
+
 -- A recoder's digits for the integer x, where `due` is the verdict that 01 gives the call: done, they keep the rules and sum to x; refused, they are all 0.
 pub record Recodes (F : Form) (due : Verdict) (x : ℕ) (answer : Verdict) (digits : List ℤ) : Type 0 where
   pub answered : answer ≡ due

@@ -1,7 +1,6 @@
 -- `fill` ends and stays inside the buffer. Assumes nothing.
 use mathlib.Core.Path.{_≡_}
 use Prim.Native.Nat.{_≤_}
-use native.Mathlib.Omega.{arith}
 use lib.ListN.{length}
 use borrow.Author.Needs.{needs}
 use Rattle.card_digits.proofs.fill.Statement.{statement}

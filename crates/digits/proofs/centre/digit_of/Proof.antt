@@ -5,7 +5,6 @@ use native.Mathlib.Omega.{arith}
 use borrow.Author.Needs.{needs}
 use mir.Syntax.{w8}
 use mir.Val.{toZ, ofZ}
-use Rattle.numbers.specs.Centred.{carried}
 use Rattle.numbers.proofs.Centred.{TakenOff, taken-off}
 use Rattle.digits.specs.Centre.{Carries}
 use Rattle.digits.proofs.centre.digit_of.Statement.{statement}

@@ -59,7 +59,7 @@ returns-4 : tie.Need-returns-4
 returns-4 c =
     let b = bytes (c .before .before .before .before .before .before .before) in
     let a = c .before .before .before .before .before .before .before .args in
-    string-keeps (a .s .bytes) (a .w) b (omega arith) (omega arith) (omega arith) (c .recode .ensures)
+    string-keeps (a .s .bytes) (a .w) b (omega arith) (omega arith) (omega arith) (c .recode .ensures .0) (c .recode .ensures .1)
 
 pub non-adjacent-form-spec : {M : Type 1} → statement M
 non-adjacent-form-spec =

@@ -8,6 +8,7 @@ use mir.Val.{toZ, ofZ}
 use Rattle.rules.specs.Integer.{integer}
 use Rattle.rules.specs.Digits.{additions}
 use Rattle.naf.proofs.Places.{Walked, walk-starts, walk-skips, walk-takes, walk-ends}
+use Rattle.naf.proofs.Replies.{walked-string}
 use Rattle.naf.proofs.recode.recode.Statement.{statement}
 use Rattle.naf.proofs.recode.recode.Tie as tie
 
@@ -66,7 +67,8 @@ returns : tie.Need-returns Inv-loop μ-loop
 unfolding additions
 returns c =
     let p = c .before .loop .inv .2 in
-    (refl, walk-ends (c .before .before .before .pre .least) p (omega arith), p .counts, p .adds)
+    let least = c .before .before .before .pre .least in
+    ((refl, p .counts, p .adds), walked-string _ _ _ least (walk-ends least p (omega arith)))
 
 pub recode-spec : {M : Type 1} → statement M
 recode-spec =

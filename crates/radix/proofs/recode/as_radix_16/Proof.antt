@@ -1,11 +1,7 @@
 -- `radix::recode::as_radix_16` meets its contract: byte 31 decides, and the 64 digits are the string of width 4. Assumes nothing.
 use mathlib.Core.Path.{refl}
-use Prim.Native.Nat.{ℕ}
 use native.Mathlib.Omega.{arith}
 use borrow.Author.Needs.{needs}
-use lib.ListN.{getD}
-use mir.Syntax.{w8}
-use mir.Val.{Fits}
 use Rattle.rules.specs.Widths.{row}
 use Rattle.radix.proofs.Promised.{due-16, due-too-wide, promised, refusing}
 use Rattle.radix.proofs.recode.as_radix_16.Statement.{statement}
@@ -30,8 +26,7 @@ returns-2 : tie.Need-returns-2
 unfolding row
 returns-2 c =
     let bytes = c .before .before .before .before .args .s .bytes in
-    let byte : (k : ℕ) → Fits w8 (getD bytes k 0) = λ k. search needs in
-    promised bytes 4 64 (c .before .nibbles .result) (record { long = search needs; small = λ k. byte k .fits }) (due-16 bytes (omega arith)) refl (c .before .nibbles .ensures) (c .reply .ensures)
+    promised bytes 4 64 (c .before .nibbles .result) (due-16 bytes (omega arith)) refl (c .before .nibbles .ensures) (c .reply .ensures)
 
 pub as-radix-16-spec : {M : Type 1} → statement M
 as-radix-16-spec =

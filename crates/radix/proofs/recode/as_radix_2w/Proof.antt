@@ -1,10 +1,6 @@
 -- `radix::recode::as_radix_2w` meets its contract: a width below 4 or above 8 is refused, width 4 is radix 16, and the others take every scalar. Assumes nothing.
-use Prim.Native.Nat.{ℕ}
 use native.Mathlib.Omega.{arith}
 use borrow.Author.Needs.{needs}
-use lib.ListN.{getD}
-use mir.Syntax.{w8}
-use mir.Val.{Fits}
 use Rattle.radix.proofs.Promised.{due-2w, due-wrong-width, promised, refusing}
 use Rattle.radix.proofs.recode.as_radix_2w.Statement.{statement}
 use Rattle.radix.proofs.recode.as_radix_2w.Tie as tie
@@ -40,9 +36,8 @@ returns-4 : tie.Need-returns-4
 returns-4 c =
     let a = c .before .before .before .before .before .before .before .args in
     let bytes = a .s .bytes in
-    let byte : (k : ℕ) → Fits w8 (getD bytes k 0) = λ k. search needs in
     let row = c .before .before .before .shape in
-    promised bytes (a .w) (row .result .digits) (c .before .windows .result) (record { long = search needs; small = λ k. byte k .fits }) (due-2w bytes (a .w) (omega arith) (omega arith)) (row .ensures .counted) (c .before .windows .ensures) (c .reply .ensures)
+    promised bytes (a .w) (row .result .digits) (c .before .windows .result) (due-2w bytes (a .w) (omega arith) (omega arith)) (row .ensures .counted) (c .before .windows .ensures) (c .reply .ensures)
 
 pub as-radix-2w-spec : {M : Type 1} → statement M
 as-radix-2w-spec =

@@ -1,10 +1,9 @@
 -- `radix::recode::nibbles` meets its contract. The loop's invariant: the digits of the bytes below k and their carry are made, and above them all is 0. Assumes nothing.
-use mathlib.Core.Path.{_≡_, refl, sym, ap, _∙_}
+use mathlib.Core.Path.{_≡_, refl, sym, _∙_}
 use Prim.Native.Nat.{ℕ, _+_, _-_, _*_, _/_, _≤_}
 use native.Mathlib.Omega.{arith}
 use borrow.Author.Needs.{needs}
 use lib.ListN.{getD, set}
-use lib.IntN.{ℤ}
 use mir.Syntax.{w8}
 use mir.Val.{toZ, ofZ, Fits}
 use mir.Facts.{toZ-pos}
@@ -116,7 +115,7 @@ returns c =
     let bytes = c .before .before .before .before .before .args .t1 in
     let loop = c .before .before .before .before .loop in
     let made = c .before .before .centre .result in
-    ap (λ (z : ℤ). set (set (loop .digits) 62 (toZ w8 (ofZ w8 (made .digit)))) 63 z) (toZ-pos w8 {n = getD bytes 31 0 / 16 + made .carry} (omega (arith, last c .small))) ∙ last c .string
+    rw (toZ-pos w8 {n = getD bytes 31 0 / 16 + made .carry} (omega (arith, last c .small))) (last c .string)
 
 pub nibbles-spec : {M : Type 1} → statement M
 nibbles-spec =

@@ -1,11 +1,10 @@
 -- `radix::recode::windows` meets its contract. The loop's invariant: the digits below i and their carry are made, and from i up all is 0. Assumes nothing.
-use mathlib.Core.Path.{_≡_, refl, ap, _∙_}
+use mathlib.Core.Path.{_≡_, refl, _∙_}
 use Prim.Native.Nat.{ℕ, _+_, _-_, _*_, _/_, _%_, _^_, _≤_, _<_}
 use native.Mathlib.Omega.{arith}
 use native.Mathlib.Nat.{mul-le-mul-left}
 use borrow.Author.Needs.{needs}
-use lib.ListN.{getD, set}
-use lib.IntN.{ℤ}
+use lib.ListN.{getD}
 use mir.Syntax.{w8}
 use mir.Val.{toZ, ofZ, Fits}
 use mir.Facts.{toZ-pos}
@@ -100,7 +99,8 @@ returns : tie.Need-returns Inv-loop μ-loop
 returns c =
     let start = c .before .before .before .before in
     let loop = c .before .before .before .loop in
-    ap (λ (z : ℤ). set (loop .digits) (start .args .n - 1) z) (toZ-pos w8 {n = c .window .result + loop .carry} (omega (arith, last c .small))) ∙ rw (start .pre .2) (last c .string)
+    let e = toZ-pos w8 {n = c .window .result + loop .carry} (omega (arith, last c .small)) in
+    rw (e, start .pre .2) (last c .string)
 
 pub windows-spec : {M : Type 1} → statement M
 windows-spec =
