@@ -5,13 +5,11 @@ use mathlib.Core.List.{List, _++_}
 use Prim.Native.Nat.{ℕ, _-_, _≤_, _<_}
 use native.Mathlib.Decide.{ℕ-discrete}
 use native.Mathlib.Omega.{arith}
-use borrow.Author.Tests.{eq-eqb, ne-eqb}
 use lib.ListN.{length, replicate, length-append}
 use lib.IntN.{ℤ}
 use Rattle.rules.specs.declared.Verdict.{Verdict}
 use Rattle.rules.specs.declared.Verdict.the-variants.{WrongLength, WrongForm}
-use Rattle.rules.specs.Verdicts.{number}
-use Rattle.rules.proofs.Verdicts.{number-zero}
+use Rattle.rules.proofs.Promises.{done-or-refused}
 use Rattle.rules.proofs.Tally.{count-most}
 use Rattle.rules.proofs.Table.{row-fits}
 use Rattle.naf.specs.NonAdjacentForm.{dueN, RecodesN}
@@ -19,17 +17,9 @@ use Rattle.radix.specs.RadixForm.{dueR, RecodesR}
 use Rattle.naf.proofs.NafPromise.{naf-determined}
 use Rattle.radix.proofs.Promised.{due-width, radix-determined}
 use Rattle.report.specs.Ascii.{ascii}
-use Rattle.report.specs.Text.{fixedLine, formLine, digitLines, refusedLine}
-use Rattle.report.specs.Report.{answerLines, letterOf, widthOf, scalarOf, letterN, letterR, LinesN, LinesR, Lines, Reports}
+use Rattle.report.specs.Text.{fixedLine, formLine, refusedLine, answerLines}
+use Rattle.report.specs.Report.{letterOf, widthOf, scalarOf, letterN, letterR, LinesN, LinesR, Lines, Reports}
 use Rattle.report.proofs.PutLaws.{decimal-length}
-
--- the answer a that a recoder gave is the verdict due
-module _ (letter w : ℕ) {a due : Verdict} (e : a ≡ due) (count : ℕ) (ds : List ℤ) where
-  pub answer-refused : number a ≢ 0 → refusedLine a ≡ answerLines letter w due count ds
-  answer-refused n = rw (← e, ne-eqb (number a) 0 n)
-
-  pub answer-done : number a ≡ 0 → formLine letter w count ++ digitLines 0 ds ≡ answerLines letter w due count ds
-  answer-done z = rw (← e, eq-eqb (number a) 0 z)
 
 pub form-line-length : (letter w count : ℕ) → length (formLine letter w count) ≤ 32
 unfolding formLine ascii
@@ -38,24 +28,18 @@ form-line-length letter w count = simp length-append (omega (arith, decimal-leng
 -- ---- what a recoder's reply says
 
 module _ {bytes : List ℕ} {w : ℕ} {a : Verdict} {ds : List ℤ} {counted added : ℕ} where
-  pub lines-n-refused : RecodesN bytes w a ds counted added → number a ≢ 0 → LinesN bytes w (refusedLine a)
-  lines-n-refused p n = let e = p .recodes .answered in record { digits = ds; counted = counted; added = added; recodes = rw e at p; are = answer-refused letterN w e counted ds n }
+  pub lines-n : RecodesN bytes w a ds counted added → LinesN bytes w (answerLines letterN w a counted ds)
+  lines-n p = let e = p .recodes .answered in record { digits = ds; counted = counted; added = added; recodes = rw e at p; are = rw e }
 
-  pub lines-n-done : RecodesN bytes w a ds counted added → number a ≡ 0 → LinesN bytes w (formLine letterN w counted ++ digitLines 0 ds)
-  lines-n-done p z = let e = p .recodes .answered in record { digits = ds; counted = counted; added = added; recodes = rw e at p; are = answer-done letterN w e counted ds z }
-
-  pub lines-r-refused : RecodesR bytes w a ds counted added → number a ≢ 0 → LinesR bytes w (refusedLine a)
-  lines-r-refused p n = let e = p .recodes .answered in record { digits = ds; counted = counted; added = added; recodes = rw e at p; are = answer-refused letterR w e counted ds n }
-
-  pub lines-r-done : RecodesR bytes w a ds counted added → number a ≡ 0 → LinesR bytes w (formLine letterR w counted ++ digitLines 0 ds)
-  lines-r-done p z = let e = p .recodes .answered in record { digits = ds; counted = counted; added = added; recodes = rw e at p; are = answer-done letterR w e counted ds z }
+  pub lines-r : RecodesR bytes w a ds counted added → LinesR bytes w (answerLines letterR w a counted ds)
+  lines-r p = let e = p .recodes .answered in record { digits = ds; counted = counted; added = added; recodes = rw e at p; are = rw e }
 
   -- a count has at most three figures
   pub count-n : RecodesN bytes w a ds counted added → counted < 1000
   count-n p = omega (arith, p .counts, count-most ds, p .recodes .long)
 
-  pub count-r : RecodesR bytes w a ds counted added → number a ≡ 0 → counted < 1000
-  count-r p z = let d = sym (p .recodes .answered) ∙ number-zero a z in omega (arith, p .counts d, row-fits w (due-width bytes w d) .most)
+  pub count-r : RecodesR bytes w a ds counted added → counted < 1000
+  count-r p = done-or-refused (dueR bytes w) (λ d. omega (arith, p .counts d, row-fits w (due-width bytes w d) .most)) (λ n. omega (arith, p .uncounted n))
 
 -- ---- the lines of an input
 

@@ -3,17 +3,13 @@ use Prim.Native.Nat.{ℕ, _-_}
 use Prim.Native.Char.{code}
 use mathlib.Core.Path.{_≡_}
 use mathlib.Core.Logic.{_≢_}
-use mathlib.Core.Bool.{cond}
 use mathlib.Core.List.{List, _++_}
-use lib.Dec.{eqb}
 use lib.ListN.{length, getD, drop, replicate}
 use lib.IntN.{ℤ}
-use Rattle.rules.specs.declared.Verdict.{Verdict}
 use Rattle.rules.specs.declared.Verdict.the-variants.{WrongLength, WrongForm}
-use Rattle.rules.specs.Verdicts.{number}
 use Rattle.naf.specs.NonAdjacentForm.{dueN, RecodesN}
 use Rattle.radix.specs.RadixForm.{dueR, RecodesR}
-use Rattle.report.specs.Text.{fixedLine, formLine, digitLines, refusedLine}
+use Rattle.report.specs.Text.{fixedLine, refusedLine, answerLines}
 
 -- The input: the form letter, the width as a byte, and the scalar.
 abbrev pub letterOf : List ℕ → ℕ
@@ -30,10 +26,6 @@ letterN = code "N"
 
 abbrev pub letterR : ℕ
 letterR = code "R"
-
--- After the fixed line: the form line and the digits, or the one line of a refusal.
-abbrev pub answerLines : ℕ → ℕ → Verdict → ℕ → List ℤ → List ℕ
-answerLines letter w v count ds = cond (eqb (number v) 0) (formLine letter w count ++ digitLines 0 ds) (refusedLine v)
 
 -- The lines of a form's recoding, whatever its recoder's promise allows.
 pub record LinesN (bytes : List ℕ) (w : ℕ) (lines : List ℕ) : Type 0 where

@@ -2,7 +2,7 @@
 use Prim.Native.Nat.{ℕ, suc, _+_, _/_, _%_}
 use mathlib.Core.Bool.{cond}
 use mathlib.Core.List.{List, [], _∷_, _++_}
-use lib.Dec.{ltb}
+use lib.Dec.{ltb, eqb}
 use lib.IntN.{ℤ, pos, negsuc}
 use Rattle.rules.specs.declared.Verdict.{Verdict}
 use Rattle.rules.specs.Digits.{isZero}
@@ -41,3 +41,7 @@ digitLines i (d ∷ ds) = digitLine i d ++ digitLines (suc i) ds
 -- The line of a refusal.
 unfoldable pub refusedLine : Verdict → List ℕ
 refusedLine v = ascii "refused " ++ decimal (number v) ++ ascii "\n"
+
+-- After the fixed line: the form line and the digits, or the one line of a refusal.
+abbrev pub answerLines : ℕ → ℕ → Verdict → ℕ → List ℤ → List ℕ
+answerLines letter w v count ds = cond (eqb (number v) 0) (formLine letter w count ++ digitLines 0 ds) (refusedLine v)

@@ -6,9 +6,8 @@ use radix::recode::as_radix_2w;
 use rules::Verdict;
 use scalar::Scalar;
 use scalar::slice::from_slice;
-use text::put_digit_lines;
+use text::put_answer;
 use text::put_fixed_line;
-use text::put_form_line;
 use text::put_refused_line;
 ghost use mathlib.Core.Path.{_≡_};
 ghost use Prim.Native.Nat.{_+_, _<_, _≤_};
@@ -29,12 +28,8 @@ fn put_n(buf: &mut [u8], at: usize, s: Scalar, w: usize) -> usize
 {
     let r = non_adjacent_form(s, w);
     let v = r.verdict;
-    if v.number() != 0 {
-        return put_refused_line(buf, at, v);
-    }
-    let next = put_form_line(buf, at, b'N', w, r.count);
     let digits = r.digits;
-    put_digit_lines(buf, next, &digits)
+    put_answer(buf, at, b'N', w, v, r.count, &digits)
 }
 
 // The lines of form R.
@@ -44,12 +39,8 @@ fn put_r(buf: &mut [u8], at: usize, s: Scalar, w: usize) -> usize
 {
     let r = as_radix_2w(s, w);
     let v = r.verdict;
-    if v.number() != 0 {
-        return put_refused_line(buf, at, v);
-    }
-    let next = put_form_line(buf, at, b'R', w, r.count);
     let digits = r.digits;
-    put_digit_lines(buf, next, &digits)
+    put_answer(buf, at, b'R', w, v, r.count, &digits)
 }
 
 // The scalar of an input of 34 bytes.

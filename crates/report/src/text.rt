@@ -5,7 +5,7 @@ ghost use Prim.Native.Nat.{_+_, _*_, _<_, _≤_};
 ghost use mathlib.Core.List.{[], _∷_};
 ghost use lib.ListN.{length};
 ghost use Rattle.report.specs.Put.{Put};
-ghost use Rattle.report.specs.Text.{decimal, signedDecimal, fixedLine, formLine, digitLine, digitLines, refusedLine};
+ghost use Rattle.report.specs.Text.{decimal, signedDecimal, fixedLine, formLine, digitLine, digitLines, refusedLine, answerLines};
 
 // One byte.
 fn put_byte(buf: &mut [u8], at: usize, b: u8) -> usize
@@ -60,7 +60,7 @@ fn put_digit(buf: &mut [u8], at: usize, d: i8) -> usize
 }
 
 // A digit's line: its index and the digit. A digit that is 0 has none.
-pub fn put_digit_line(buf: &mut [u8], at: usize, i: usize, d: i8) -> usize
+fn put_digit_line(buf: &mut [u8], at: usize, i: usize, d: i8) -> usize
     requires { ⌜ (i < 1000) × (at + 9 ≤ length (now buf)) ⌝ }
     ensures { λ r. ⌜ Put (now (buf .entry)) at (digitLine i d) (now (buf .exit)) r ⌝ }
 {
@@ -74,7 +74,7 @@ pub fn put_digit_line(buf: &mut [u8], at: usize, i: usize, d: i8) -> usize
 }
 
 // The lines of the digits, from index 0 up.
-pub fn put_digit_lines(buf: &mut [u8], at: usize, digits: &[i8]) -> usize
+fn put_digit_lines(buf: &mut [u8], at: usize, digits: &[i8]) -> usize
     requires { ⌜ (length (now digits) ≤ 256) × (at + 9 * length (now digits) ≤ length (now buf)) ⌝ }
     ensures { λ r. ⌜ Put (now (buf .entry)) at (digitLines 0 (now (digits .entry))) (now (buf .exit)) r ⌝ }
 {
@@ -96,7 +96,7 @@ pub fn put_fixed_line(buf: &mut [u8], at: usize) -> usize
 }
 
 // The form line: the form's letter, the width and the count.
-pub fn put_form_line(buf: &mut [u8], at: usize, letter: u8, w: usize, count: usize) -> usize
+fn put_form_line(buf: &mut [u8], at: usize, letter: u8, w: usize, count: usize) -> usize
     requires { ⌜ (w < 1000) × (count < 1000) × (at + 32 ≤ length (now buf)) ⌝ }
     ensures { λ r. ⌜ Put (now (buf .entry)) at (formLine letter w count) (now (buf .exit)) r ⌝ }
 {
@@ -117,4 +117,24 @@ pub fn put_refused_line(buf: &mut [u8], at: usize, v: Verdict) -> usize
     let refused = put_bytes(buf, at, b"refused ");
     let number = put_number(buf, refused, v.number() as u32);
     put_bytes(buf, number, b"\n")
+}
+
+// The lines after the fixed one: those of a refusal, or the form line and the digits.
+pub fn put_answer(
+    buf: &mut [u8],
+    at: usize,
+    letter: u8,
+    w: usize,
+    v: Verdict,
+    count: usize,
+    digits: &[i8],
+) -> usize
+    requires { ⌜ (w < 1000) × (count < 1000) × (length (now digits) ≤ 256) × (at + 2400 ≤ length (now buf)) ⌝ }
+    ensures { λ r. ⌜ Put (now (buf .entry)) at (answerLines letter w v count (now (digits .entry))) (now (buf .exit)) r ⌝ }
+{
+    if v.number() != 0 {
+        return put_refused_line(buf, at, v);
+    }
+    let next = put_form_line(buf, at, letter, w, count);
+    put_digit_lines(buf, next, digits)
 }
