@@ -2,3 +2,4 @@ pub mod Copies
 pub mod Replies
 pub mod Tallies
 pub mod CardLaws
+pub mod Given

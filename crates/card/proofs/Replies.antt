@@ -41,6 +41,10 @@ module _ {B : Type 0} {Asked : B → Type 0} {before : B} {due : Verdict} where
   pub answers-copied : {after : B} (made : B) → due ≡ Done → after ≡ made → Asked made → Answers due Asked before after 0
   answers-copied made e p q = answers-done e (subst Asked (sym p) q)
 
+  -- the verdict of the library is the one due, and what it made is what was asked for
+  pub answers-given : {v : Verdict} {after : B} {result : ℕ} {Made : B → Type 0} → due ≡ v → Answers v Made before after result → ((x : B) → v ≡ Done → Made x → Asked x) → Answers due Asked before after result
+  answers-given e p f = record { coded = p .coded ∙ sym (ap code e); done = λ d. let g = sym e ∙ d in f _ g (p .done g); refused = λ n. p .refused (λ g. n (e ∙ g)) }
+
 -- the library has tried the lengths, m against n, and written where they agree
 module _ (m n : ℕ) {v : Verdict} where
   pub answers-sized : {B : Type 0} {Asked : B → Type 0} {before after : B} {result : ℕ} → result ≡ code v

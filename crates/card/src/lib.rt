@@ -3,6 +3,7 @@
 pub mod as_bits;
 pub mod as_words;
 mod copy;
+mod give;
 pub mod n;
 pub mod r;
 mod report;

@@ -1,9 +1,8 @@
 // Form N: recode, test and read.
 use crate::copy::array_of;
-use crate::copy::put_bytes;
-use crate::copy::put_digits;
+use crate::give::give_bytes;
+use crate::give::give_digits;
 use crate::report::code_of;
-use crate::report::put_tally;
 use naf::read::read;
 use naf::read::test;
 use naf::recode::non_adjacent_form;
@@ -34,13 +33,8 @@ pub extern "C" fn card_n_recode(
     let bytes = array_of(scalar);
     let made = non_adjacent_form(Scalar { bytes }, width);
     let verdict = made.verdict;
-    if verdict.number() != 0 {
-        return code_of(verdict);
-    }
     let string = made.digits;
-    put_digits(&string, digits);
-    put_tally(tally, made.count, made.additions);
-    0
+    give_digits(verdict, &string, made.count, made.additions, digits, tally)
 }
 
 #[no_mangle]
@@ -57,12 +51,5 @@ pub extern "C" fn card_n_read(digits: &[i8], width: usize, out: &mut [u8]) -> u6
     if out.len() != 32 {
         return 1;
     }
-    let found = read(digits, width);
-    let fault = found.verdict;
-    if fault.number() != 0 {
-        return code_of(fault);
-    }
-    let bytes = found.scalar.bytes;
-    put_bytes(&bytes, out);
-    0
+    give_bytes(read(digits, width), out)
 }

@@ -1,9 +1,8 @@
 // Form R: recode, test and read.
 use crate::copy::array_of;
-use crate::copy::put_bytes;
-use crate::copy::put_digits;
+use crate::give::give_bytes;
+use crate::give::give_digits;
 use crate::report::code_of;
-use crate::report::put_tally;
 use radix::read::read;
 use radix::read::test;
 use radix::recode::as_radix_2w;
@@ -34,13 +33,8 @@ pub extern "C" fn card_r_recode(
     let bytes = array_of(scalar);
     let made = as_radix_2w(Scalar { bytes }, width);
     let verdict = made.verdict;
-    if verdict.number() != 0 {
-        return code_of(verdict);
-    }
     let string = made.digits;
-    put_digits(&string, digits);
-    put_tally(tally, made.count, made.additions);
-    0
+    give_digits(verdict, &string, made.count, made.additions, digits, tally)
 }
 
 #[no_mangle]
@@ -57,12 +51,5 @@ pub extern "C" fn card_r_read(digits: &[i8], width: usize, out: &mut [u8]) -> u6
     if out.len() != 32 {
         return 1;
     }
-    let found = read(digits, width);
-    let fault = found.verdict;
-    if fault.number() != 0 {
-        return code_of(fault);
-    }
-    let bytes = found.scalar.bytes;
-    put_bytes(&bytes, out);
-    0
+    give_bytes(read(digits, width), out)
 }

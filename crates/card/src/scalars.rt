@@ -2,10 +2,12 @@
 use crate::copy::array_of;
 use crate::copy::byte_of;
 use crate::copy::put_bytes;
+use crate::give::give_bytes;
 use crate::report::code_of;
 use scalar::Scalar;
 use scalar::select::conditional_select;
 use scalar::zeroize::zeroize;
+use sum::Read;
 ghost use Rattle.card.specs.Scalars.{CardFromBits, CardSelect, CardIsOdd, CardZeroize};
 
 #[no_mangle]
@@ -40,12 +42,8 @@ pub extern "C" fn card_select(a: &[u8], b: &[u8], choice: u32, out: &mut [u8]) -
     let second = Scalar { bytes: array_of(b) };
     let made = conditional_select(first, second, choice as u64);
     let verdict = made.verdict;
-    if verdict.number() != 0 {
-        return code_of(verdict);
-    }
-    let bytes = made.scalar.bytes;
-    put_bytes(&bytes, out);
-    0
+    let scalar = made.scalar;
+    give_bytes(Read { verdict, scalar }, out)
 }
 
 #[no_mangle]

@@ -1,33 +1,19 @@
--- `card_select` keeps its promise: each wrong length is refused, then the choice, and the bytes chosen are copied. Assumes nothing.
-use mathlib.Core.Path.{_≡_, sym, ap, _∙_}
-use mathlib.Core.Bool.{_&&_}
-use lib.ListN.{length}
+-- `card_select` keeps its promise: each wrong length is refused, and then the choice's answer is handed over. Assumes nothing.
+use mathlib.Core.Path.{ap}
 use native.Mathlib.Omega.{arith}
 use borrow.Author.Needs.{needs}
 use borrow.Author.Tests.{eq-eqb, ne-eqb}
 use lib.Dec.{leb}
-use Rattle.rules.specs.declared.Verdict.the-variants.{Done, WrongLength, WrongChoice}
-use Rattle.rules.specs.Verdicts.{position, unless, _orElse_}
-use Rattle.rules.proofs.Verdicts.{number-zero}
+use Rattle.rules.specs.Verdicts.{position, _orElse_}
 use Rattle.scalar.specs.ConditionalSelect.{Selects}
-use Rattle.card.specs.Answers.{sized}
-use Rattle.card.proofs.Replies.{answers-short, answers-refused, answers-copied, select-due, choice-position}
+use Rattle.card.proofs.Replies.{answers-short, select-due, choice-position}
+use Rattle.card.proofs.Given.{select-given}
 use Rattle.card.proofs.scalars.card_select.Statement.{statement}
 use Rattle.card.proofs.scalars.card_select.Tie as tie
 
 selected : (c : tie.After-conditional-select) → let a = c .before .before .before .before .before .before .before .before .before .args in let r = c .conditional-select .result in
     Selects (a .a .now) (a .b .now) (a .choice) (r .verdict) (r .scalar .bytes)
 selected c = rw (c .before .before .array-of .ensures, c .before .array-of2 .ensures) at (c .conditional-select .ensures)
-
-due : (c : tie.After-conditional-select) → let a = c .before .before .before .before .before .before .before .before .before .args in
-    (unless (sized 32 (a .a .now) && sized 32 (a .b .now) && sized 32 (a .out .now)) WrongLength orElse unless (leb (a .choice) 1) WrongChoice) ≡ c .conditional-select .result .verdict
-unfolding _orElse_
-due c =
-    let e = c .before .before .before in
-    rw (eq-eqb _ _ (e .before .before .if1 .left), eq-eqb _ _ (e .before .if2 .left), eq-eqb _ _ (e .if3 .left)) (sym (select-due _ (selected c)))
-
-long : (c : tie.After-conditional-select) → length (c .conditional-select .result .scalar .bytes) ≡ 32
-long c = search needs
 
 returns : tie.Need-returns
 unfolding _orElse_
@@ -50,34 +36,20 @@ array-of-requires-2 c κs = search needs
 conditional-select-requires : tie.Need-conditional-select-requires
 conditional-select-requires c κs = search needs
 
-number-requires : tie.Need-number-requires
-number-requires c κs = search needs
-
-code-of-requires : tie.Need-code-of-requires
-code-of-requires c κs =
+give-bytes-requires : tie.Need-give-bytes-requires
+give-bytes-requires c κs =
     let k = c .before .before in
-    omega (arith, ap position (select-due _ (selected k)), choice-position (leb (k .before .before .before .before .before .before .before .before .before .args .choice) 1))
-
-returns-4 : tie.Need-returns-4
-returns-4 c =
-    let k = c .before .before .before in
-    answers-refused (k .conditional-select .result .verdict) (due k) (λ z. c .before .if4 .taken (c .before .before .number .ensures ∙ z)) (c .code-of .ensures)
-
-slice-aggregate-put-bytes : tie.Need-slice-aggregate-put-bytes
-slice-aggregate-put-bytes c = search needs
-
-put-bytes-requires : tie.Need-put-bytes-requires
-put-bytes-requires c κs = omega (arith, long (c .before .before .before .before .before))
+    let a = k .before .before .before .before .before .before .before .before .before .args in
+    (omega arith, omega (arith, ap position (select-due _ (selected k)), choice-position (leb (a .choice) 1)))
 
 same-length : tie.Need-same-length
 same-length c = search needs
 
-returns-5 : tie.Need-returns-5
-returns-5 c =
-    let f = c .before .before .before .before .before .before in
-    let k = f .before .before in
-    let d : k .conditional-select .result .verdict ≡ Done = number-zero _ (sym (f .before .number .ensures) ∙ f .if4 .left) in
-    answers-copied (k .conditional-select .result .scalar .bytes) (due k ∙ d) (c .before .before .put-bytes .ensures) (rw d at (selected k))
+returns-4 : tie.Need-returns-4
+returns-4 c =
+    let k = c .before .before .before .before .before in
+    let e = k .before .before .before in
+    select-given _ (e .before .before .if1 .left) (e .before .if2 .left) (e .if3 .left) (selected k) (c .before .before .give-bytes .ensures)
 
 pub card-select-spec : {M : Type 1} → statement M
 card-select-spec =
@@ -89,10 +61,6 @@ card-select-spec =
     array-of-requires
     array-of-requires-2
     conditional-select-requires
-    number-requires
-    code-of-requires
-    returns-4
-    slice-aggregate-put-bytes
-    put-bytes-requires
+    give-bytes-requires
     same-length
-    returns-5)
+    returns-4)
