@@ -11,23 +11,27 @@ use Rattle.naf.specs.NonAdjacentForm.{dueN, RecodesN}
 use Rattle.radix.specs.RadixForm.{dueR, RecodesR}
 use Rattle.report.specs.Text.{fixedLine, refusedLine, answerLines}
 
--- The input: the form letter, the width as a byte, and the scalar.
+-- The input's first byte: the form letter.
 abbrev pub letterOf : List ℕ → ℕ
 letterOf input = getD input 0 0
 
+-- Its second byte: the width.
 abbrev pub widthOf : List ℕ → ℕ
 widthOf input = getD input 1 0
 
+-- The bytes after those: the scalar.
 abbrev pub scalarOf : List ℕ → List ℕ
 scalarOf input = drop 2 input
 
+-- The letter of form N.
 abbrev pub letterN : ℕ
 letterN = code "N"
 
+-- The letter of form R.
 abbrev pub letterR : ℕ
 letterR = code "R"
 
--- The lines of a form's recoding, whatever its recoder's promise allows.
+-- The lines of N's recoding, whatever the recoder's promise allows.
 pub record LinesN (bytes : List ℕ) (w : ℕ) (lines : List ℕ) : Type 0 where
   pub digits : List ℤ
   pub counted : ℕ
@@ -35,6 +39,7 @@ pub record LinesN (bytes : List ℕ) (w : ℕ) (lines : List ℕ) : Type 0 where
   pub recodes : RecodesN bytes w (dueN bytes w) digits counted added
   pub are : lines ≡ answerLines letterN w (dueN bytes w) counted digits
 
+-- The same for R.
 pub record LinesR (bytes : List ℕ) (w : ℕ) (lines : List ℕ) : Type 0 where
   pub digits : List ℤ
   pub counted : ℕ

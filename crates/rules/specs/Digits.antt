@@ -10,6 +10,7 @@ use lib.IntN.{ℤ, pos, natAbs, _+ℤ_, _*ℤ_}
 abbrev pub digitAt : List ℤ → ℕ → ℤ
 digitAt ds i = getD ds i (pos 0)
 
+-- Whether a digit is 0.
 abbrev pub isZero : ℤ → Bool
 isZero d = eqb (natAbs d) 0
 

@@ -13,6 +13,7 @@ use Rattle.rules.specs.Forms.{Form, cardN, cardR}
 use Rattle.rules.specs.Verdicts.{number, position}
 use Rattle.rules.specs.Test.{verdict}
 
+-- The form that a figure is about.
 pub data Letter : Type 0 where
   N R : Letter
 
@@ -35,12 +36,14 @@ unfoldable pub placed : ℕ → List Named → List ℤ
 placed n [] = replicate n (pos 0)
 placed n (e ∷ es) = set (placed n es) (e .index) (e .digit)
 
+-- Two integers are equal.
 sameSum : ℤ → ℤ → Bool
 sameSum (pos a) (pos b) = eqb a b
 sameSum (pos a) (negsuc b) = false
 sameSum (negsuc a) (pos b) = false
 sameSum (negsuc a) (negsuc b) = eqb a b
 
+-- Two verdicts have one number and one position.
 sameVerdict : Verdict → Verdict → Bool
 sameVerdict u v = eqb (number u) (number v) && eqb (position u) (position v)
 
@@ -52,6 +55,7 @@ countWith v k = cond (eqb (number v) 0) k 0
 holdsOf : Form → ℕ → List ℤ → ℤ → Verdict → ℕ → Bool
 holdsOf F k ds z v c = sameSum (weighted (F .base) ds) z && sameVerdict (verdict F ds) v && eqb (countWith v k) c
 
+-- A row of N, or of R, which counts the digits of its width.
 holdsAs : Letter → ℕ → List Named → ℤ → Verdict → ℕ → Bool
 holdsAs N w es z v c = holdsOf (cardN w) (count (placed 256 es)) (placed 256 es) z v c
 holdsAs R w es z v c = holdsOf (cardR w) (row w .digits) (placed 64 es) z v c
@@ -61,17 +65,21 @@ unfoldable pub holds : Figure → Bool
 unfolding sameSum sameVerdict countWith holdsOf holdsAs
 holds f = holdsAs (f .letter) (f .width) (f .named) (f .sum) (f .answer) (f .counted)
 
+-- Every row is right.
 unfoldable pub allHold : List Figure → Bool
 allHold [] = true
 allHold (f ∷ fs) = holds f && allHold fs
 
+-- A row, written on one line.
 figure : Letter → ℕ → List Named → ℤ → Verdict → ℕ → Figure
 figure l w es z v c = record { letter = l; width = w; named = es; sum = z; answer = v; counted = c }
 
+-- A digit and its index.
 infix 70 _at_
 _at_ : ℤ → ℕ → Named
 d at i = record { index = i; digit = d }
 
+-- A negative digit.
 minus : ℕ → ℤ
 minus n = negℤ (pos n)
 

@@ -37,5 +37,6 @@ pub record SumAnswered (z : ℤ) (short : Bool) (answer : Verdict) (bytes : List
   pub sums : answer ≡ Done → z ≡ pos (integer bytes)
   pub zeros : answer ≢ Done → bytes ≡ replicate 32 0
 
+-- A total is judged as the integer that it stands for.
 abbrev pub Judged : List ℕ → ℕ → ℕ → Bool → Verdict → List ℕ → Type 0
 Judged given above half short answer bytes = (z : ℤ) → Totals z given above half → SumAnswered z short answer bytes
