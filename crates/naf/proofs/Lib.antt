@@ -3,5 +3,3 @@ pub mod Places
 pub mod Due
 pub mod Replies
 pub mod NafPromise
-pub mod Faults
-pub mod ReadLaws

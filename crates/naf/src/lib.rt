@@ -1,3 +1,2 @@
-// Form N: scalars as non-adjacent digits, and back.
-pub mod read;
+// Form N: scalars as non-adjacent digits.
 pub mod recode;

@@ -19,8 +19,8 @@ fn recode(name: &[u8], bytes: [u8; 32], w: usize) {
 
 // A digit string read at a width.
 fn read_back(digits: &[i8], w: usize) {
-    show::verdict(naf::read::test(digits, w));
-    let r = naf::read::read(digits, w);
+    show::verdict(naf_read::test(digits, w));
+    let r = naf_read::read(digits, w);
     let v = r.verdict;
     show::verdict(v);
     let s = r.scalar;

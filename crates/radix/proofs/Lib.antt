@@ -3,5 +3,3 @@ pub mod Rows
 pub mod Front
 pub mod Promised
 pub mod Halves
-pub mod Offsets
-pub mod ReadLaws

@@ -1,4 +1,3 @@
-// Form R: scalars as digits in radix 2^w, and back.
-pub mod read;
+// Form R: scalars as digits in radix 2^w.
 pub mod recode;
 pub mod shape;

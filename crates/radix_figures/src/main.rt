@@ -23,8 +23,8 @@ fn recode(name: &[u8], bytes: [u8; 32], w: usize) {
 
 // A digit string tested and read at a width.
 fn read_back(digits: &[i8], w: usize) {
-    show::verdict(radix::read::test(digits, w));
-    let r = radix::read::read(digits, w);
+    show::verdict(radix_read::test(digits, w));
+    let r = radix_read::read(digits, w);
     let v = r.verdict;
     show::verdict(v);
     let s = r.scalar;
