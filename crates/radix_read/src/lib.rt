@@ -1,7 +1,7 @@
 // Form R read back: the test of a digit string, and its 32 bytes.
-use radix::shape::shape;
 use digits::half::half_of;
 use digits::magnitude::offset;
+use radix::shape::shape;
 use rules::Verdict;
 use sum::Read;
 use sum::read_sum;
