@@ -1,33 +1,33 @@
 -- What the recoders of R promise: how a reply comes to keep it, that it fixes the reply and the string, and what the source said before it. Assumes nothing.
 use mathlib.Core.Path.{_≡_, sym, ap, _∙_}
 use mathlib.Core.Logic.{_≢_, by-cases}
-use mathlib.Core.Bool.{Bool, not, _||_}
+use mathlib.Core.Bool.{Bool, not, cond, _||_}
 use mathlib.Core.List.{List}
-use Prim.Native.Nat.{ℕ, _^_, _≤_, _<_}
+use Prim.Native.Nat.{ℕ, _+_, _-_, _^_, _≤_, _<_}
 use native.Mathlib.Decide.{decLt, ℕ-discrete}
 use native.Mathlib.Omega.{arith}
-use borrow.Author.Tests.{ne-eqb}
-use lib.Dec.{T, leb, eqb, leb→le, le→leb, not-T}
-use lib.ListN.{length, getD, take, replicate, length-replicate, List·getD-eq-default}
-use lib.IntN.{ℤ, pos, negsuc, natAbs}
-use Rattle.numbers.proofs.Tests.{and-right}
+use borrow.Author.Tests.{eq-eqb, ne-eqb}
+use lib.Dec.{T, leb, ltb, eqb, leb→le, le→leb, ltb→lt, not-T}
+use lib.ListN.{length, getD, take, replicate, length-replicate}
+use lib.IntN.{ℤ, pos, negsuc, negℤ, natAbs}
+use Rattle.numbers.proofs.Tests.{and-right, cond-true, cond-false}
 use Rattle.rules.specs.declared.Verdict.{Verdict}
 use Rattle.rules.specs.declared.Verdict.the-variants.{Done, WrongWidth, TooWide}
 use Rattle.rules.specs.Integer.{integer, Bytes}
-use Rattle.rules.specs.Digits.{digitAt, weighted}
+use Rattle.rules.specs.Digits.{digitAt, isZero, weighted}
 use Rattle.rules.specs.Widths.{widthR, row}
-use Rattle.rules.specs.Forms.{digitR, cardR}
+use Rattle.rules.specs.Forms.{digitR, within, cardR}
 use Rattle.rules.specs.Keeps.{Passes}
 use Rattle.rules.specs.Verdicts.{number, unless}
 use Rattle.rules.specs.Promises.{Recoded}
 use Rattle.rules.proofs.Verdicts.{orElse-done, done-orElse, refused-orElse, unless-held, unless-failed, unless-done}
 use Rattle.rules.proofs.Promises.{SumFixes, done-or-refused, recodes-determined}
 use Rattle.rules.proofs.Radix.{Between, digitR-before, unique-r}
-use Rattle.rules.proofs.Table.{FromTo, width-between}
+use Rattle.rules.proofs.Table.{FromTo, row-fits, width-between}
 use Rattle.rules.proofs.Exactly.{passing, equal-digits-r}
 use Rattle.scalar.proofs.TopByte.{byte-31}
 use Rattle.radix.specs.RadixForm.{dueR, RecodesR}
-use Rattle.radix.proofs.Rows.{width-held, all-bits, bytes-range}
+use Rattle.radix.proofs.Rows.{width-held, all-bits, bytes-range, top-half}
 use Rattle.radix.proofs.Front.{front-sum, past-zero}
 
 -- ---- which verdict is due
@@ -121,25 +121,43 @@ module _ (bytes : List ℕ) (w : ℕ) {answer : Verdict} {digits : List ℤ} {co
     pub implies-radix-sum : weighted (2 ^ w) (take (row w .digits) digits) ≡ pos (integer bytes)
     implies-radix-sum = front-sum (2 ^ w) (row w .digits) digits (past-zero w digits (r .recodes .keeps d)) ∙ r .recodes .sums d
 
--- ---- the digits of radix 16
+-- ---- no digit is past half the span
 
-between-8 : (d : ℤ) → Between 8 d → natAbs d ≤ 8
-between-8 (pos n) b = omega (arith, b .below)
-between-8 (negsuc n) b = omega (arith, b .above)
+between-half : (H : ℕ) (d : ℤ) → Between H d → natAbs d ≤ H
+between-half H (pos n) b = omega (arith, b .below)
+between-half H (negsuc n) b = omega (arith, b .above)
 
-last-8 : (d : ℤ) → T (digitR 4 64 8 63 d) → natAbs d ≤ 8
+within-top : (top : ℕ) (d : ℤ) → T (within (pos 0) (pos top) d) → natAbs d ≤ top
+within-top top (pos n) t = leb→le n top (and-right (leb 0 n) (leb n top) t)
+within-top top (negsuc n) t = absurd t
+
+at-last : (w n top i : ℕ) (d : ℤ) → i + 1 ≡ n → T (digitR w n top i d) → natAbs d ≤ top
 unfolding digitR
-last-8 (pos n) t = leb→le n 8 (and-right (leb 0 n) (leb n 8) t)
-last-8 (negsuc n) t = absurd t
+at-last w n top i d e t =
+    within-top top d
+    (cond-true (eqb (i + 1) n) (within (pos 0) (pos top) d) (isZero d) (rw (eq-eqb (i + 1) n e) tt)
+    (cond-false (ltb (i + 1) n) (within (negℤ (pos (2 ^ (w - 1)))) (pos (2 ^ (w - 1) - 1)) d) (cond (eqb (i + 1) n) (within (pos 0) (pos top) d) (isZero d)) (λ s. let l = ltb→lt (i + 1) n s in omega arith) t))
 
-pub implies-radix-16-bounds : {bytes : List ℕ} {answer : Verdict} {digits : List ℤ} {counted added : ℕ} → RecodesR bytes 4 answer digits counted added → dueR bytes 4 ≡ Done → (i : ℕ) → natAbs (digitAt digits i) ≤ 8
-unfolding row
-implies-radix-16-bounds {digits} r d i = go (decLt i 63) (decLt 63 i)
+pub implies-radix-bounds : {bytes : List ℕ} {w : ℕ} {answer : Verdict} {digits : List ℤ} {counted added : ℕ} → RecodesR bytes w answer digits counted added → dueR bytes w ≡ Done → (i : ℕ) → natAbs (digitAt digits i) ≤ 2 ^ (w - 1)
+implies-radix-bounds {bytes} {w} {digits} r d i = go (decLt (i + 1) n) (decLt n (i + 1))
   where
-    kept : i < 64 → T (digitR 4 64 8 i (digitAt digits i))
+    n : ℕ
+    n = row w .digits
+
+    width : T (widthR w)
+    width = due-width bytes w d
+
+    kept : i < 64 → T (digitR w n (row w .top) i (digitAt digits i))
     kept h = r .recodes .keeps d .digits i (omega (arith, r .recodes .long))
 
-    go : Dec (i < 63) → Dec (63 < i) → natAbs (digitAt digits i) ≤ 8
-    go (yes h) m = between-8 (digitAt digits i) (digitR-before 4 64 8 i (digitAt digits i) (omega arith) (kept (omega arith)))
-    go (no h) (yes m) = rw (List·getD-eq-default digits (pos 0) {n = i} (omega (arith, r .recodes .long))) (omega arith)
-    go (no h) (no m) = let e : i ≡ 63 = omega arith in rw e (last-8 (digitAt digits 63) (rw e at (kept (omega arith))))
+    go : Dec (i + 1 < n) → Dec (n < i + 1) → natAbs (digitAt digits i) ≤ 2 ^ (w - 1)
+    go (yes h) m = between-half (2 ^ (w - 1)) (digitAt digits i) (digitR-before w n (row w .top) i (digitAt digits i) h (kept (omega (arith, row-fits w width .most))))
+    go (no h) (yes m) = rw (past-zero w digits (r .recodes .keeps d) i (omega arith)) (omega arith)
+    go (no h) (no m) =
+        let e : i + 1 ≡ n = omega arith in
+        let l = at-last w n (row w .top) i (digitAt digits i) e (kept (omega (arith, row-fits w width .most))) in
+        omega (arith, top-half w width)
+
+-- at width 4: from -8 to 8
+pub implies-radix-16-bounds : {bytes : List ℕ} {answer : Verdict} {digits : List ℤ} {counted added : ℕ} → RecodesR bytes 4 answer digits counted added → dueR bytes 4 ≡ Done → (i : ℕ) → natAbs (digitAt digits i) ≤ 8
+implies-radix-16-bounds r d i = implies-radix-bounds r d i

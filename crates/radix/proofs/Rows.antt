@@ -48,6 +48,11 @@ pub top-small : (w : ℕ) → T (widthR w) → row w .top ≤ 16
 unfolding row
 top-small = at-widths (λ w. row w .top ≤ 16) (lit≤ tt) (lit≤ tt) (lit≤ tt) (lit≤ tt) (lit≤ tt)
 
+-- .. and is at most half the span
+pub top-half : (w : ℕ) → T (widthR w) → row w .top ≤ 2 ^ (w - 1)
+unfolding row
+top-half = at-widths (λ w. row w .top ≤ 2 ^ (w - 1)) (lit≤ tt) (lit≤ tt) (lit≤ tt) (lit≤ tt) (lit≤ tt)
+
 -- width 4 alone leaves the top bit free
 pub all-bits : (w : ℕ) → T (widthR w) → w ≢ 4 → row w .bits ≡ 256
 unfolding row
