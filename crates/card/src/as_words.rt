@@ -1,5 +1,5 @@
 // Words of eight bytes: the library takes lent slices here, and its verdict is handed on.
-use crate::report::code_of;
+use crate::code::code_of;
 use words::read_le_u64_into;
 use words::write_le_u64_into;
 ghost use Rattle.card.specs.Words.{CardReadWords, CardWriteWords};

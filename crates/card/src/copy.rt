@@ -1,7 +1,8 @@
-// Slices to arrays and back.
+// Slices to arrays and back, and the tally.
 use scalar::slice::from_slice;
 ghost use mathlib.Core.Path.{_≡_};
-ghost use mathlib.Core.List.{map};
+ghost use mathlib.Core.List.{map, [], _∷_};
+ghost use Prim.Native.Nat.{_≤_};
 ghost use lib.ListN.{length};
 ghost use Rattle.bits.specs.BitNumber.{bitNumber};
 ghost use Rattle.card.specs.Bits.{isSet};
@@ -67,4 +68,13 @@ pub fn put_bits(src: &[bool], dst: &mut [u8])
         dst[i] = byte_of(src[i]);
         i += 1;
     }
+}
+
+// The count, and then the additions.
+pub fn put_tally(tally: &mut [u32], count: usize, additions: usize)
+    requires { ⌜ (length (now tally) ≡ 2) × (count ≤ 256) × (additions ≤ 256) ⌝ }
+    ensures { λ _. ⌜ now (tally .exit) ≡ count ∷ additions ∷ [] ⌝ }
+{
+    tally[0] = count as u32;
+    tally[1] = additions as u32;
 }

@@ -1,8 +1,8 @@
 // What a call hands over once the library has answered: its code, and where it is done, what was asked for.
+use crate::code::code_of;
 use crate::copy::put_bytes;
 use crate::copy::put_digits;
-use crate::report::code_of;
-use crate::report::put_tally;
+use crate::copy::put_tally;
 use rules::Verdict;
 use sum::Read;
 ghost use mathlib.Core.Path.{_≡_};

@@ -2,9 +2,9 @@
 // done. Every length is tried before anything else, and a refused call writes nothing.
 pub mod as_bits;
 pub mod as_words;
+mod code;
 mod copy;
 mod give;
 pub mod n;
 pub mod r;
-mod report;
 pub mod scalars;

@@ -1,8 +1,8 @@
 // Form N: recode, test and read.
+use crate::code::code_of;
 use crate::copy::array_of;
 use crate::give::give_bytes;
 use crate::give::give_digits;
-use crate::report::code_of;
 use naf::recode::non_adjacent_form;
 use naf_read::read;
 use naf_read::test;

@@ -1,8 +1,8 @@
 // Form R: recode, test and read.
+use crate::code::code_of;
 use crate::copy::array_of;
 use crate::give::give_bytes;
 use crate::give::give_digits;
-use crate::report::code_of;
 use radix::recode::as_radix_2w;
 use radix_read::read;
 use radix_read::test;

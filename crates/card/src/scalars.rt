@@ -1,9 +1,9 @@
 // Whole scalars.
+use crate::code::code_of;
 use crate::copy::array_of;
 use crate::copy::byte_of;
 use crate::copy::put_bytes;
 use crate::give::give_bytes;
-use crate::report::code_of;
 use scalar::Scalar;
 use scalar::select::conditional_select;
 use scalar::zeroize::zeroize;

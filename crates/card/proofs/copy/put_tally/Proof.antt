@@ -1,8 +1,8 @@
 -- `card::report::put_tally` meets its contract: two stores fill a list of two. Assumes nothing.
 use borrow.Author.Needs.{needs}
 use Rattle.card.proofs.Copies.{two-stored}
-use Rattle.card.proofs.report.put_tally.Statement.{statement}
-use Rattle.card.proofs.report.put_tally.Tie as tie
+use Rattle.card.proofs.copy.put_tally.Statement.{statement}
+use Rattle.card.proofs.copy.put_tally.Tie as tie
 
 cast-tally : tie.Need-cast-tally
 cast-tally c = search needs
