@@ -18,10 +18,11 @@ use Rattle.rules.specs.Keeps.{Keeps}
 use Rattle.rules.specs.Verdicts.{number, _orElse_}
 use Rattle.rules.specs.Test.{crowded, faultAt, firstFault}
 use Rattle.rules.specs.Refusals.{BreaksAt, CrowdsAt}
+use Rattle.rules.specs.inner.Scan.{scan}
 use Rattle.rules.proofs.Verdicts.{done-orElse, refused-orElse, unless-held, unless-failed}
 use Rattle.rules.proofs.ZeroDigit.{zero-or, nonzero-of, nonzero-is}
 use Rattle.rules.proofs.Tally.{none-nonzero, some-nonzero}
-use Rattle.rules.proofs.Scan.{scan, view, View, clean, stops, stopped, good-scan, stop-scan, good-keeps, stop-breaks, stop-crowds}
+use Rattle.rules.proofs.Scan.{view, View, clean, stops, stopped, good-scan, stop-scan, good-keeps, stop-breaks, stop-crowds}
 
 module _ (gap : ℕ) (ds : List ℤ) where
   -- the digits just below index j: the m-th of them is digit (j - gap) + m

@@ -15,9 +15,10 @@ use Rattle.numbers.proofs.Balance.{up, dn, same, abs-balance}
 use Rattle.rules.specs.Digits.{digitAt, isZero, weighted}
 use Rattle.rules.specs.Forms.{formN, digitN}
 use Rattle.rules.specs.Keeps.{Keeps}
+use Rattle.rules.specs.inner.Scan.{heldNext}
 use Rattle.rules.proofs.ZeroDigit.{zero-or, odd-nonzero, Zeros, no-zeros}
 use Rattle.rules.proofs.Sum.{cons-balance, zero-up, zero-dn, nil-sum, zeros-scaled}
-use Rattle.rules.proofs.Scan.{Good, good-nil, good-cons, good-zeros, good-keeps, keeps-good, heldNext, free}
+use Rattle.rules.proofs.Scan.{Good, good-nil, good-cons, good-zeros, good-keeps, keeps-good, free}
 
 -- at width g + 1: the end, a zero in front, or an odd digit below 2^g in front of g zeros
 pub data NonAdjacent (g : ℕ) : List ℤ → Type 0 where

@@ -1,26 +1,24 @@
 -- The rules admit strings whose sum is outside the range: for each form one below it and one at its end. Assumes nothing.
 use mathlib.Core.Path.{_≡_, refl}
 use mathlib.Core.List.{List, _∷_}
-use Prim.Native.Nat.{ℕ, zero, suc, _-_, _^_, _<_}
+use Prim.Native.Nat.{ℕ, zero, suc, _-_, _^_, _<_, _≤_}
 use native.Mathlib.Nat.{le-refl}
 use native.Mathlib.Omega.{arith}
 use lib.Dec.{T, le→leb}
-use lib.ListN.{length, replicate, length-replicate}
+use lib.ListN.{replicate, length-replicate}
 use lib.Pow.{pow-mono, pow-pos}
 use lib.IntN.{ℤ, pos, negsuc}
 use lib.Signed.{_<ℤ_, _≤ℤ_, ltZ-yes, leZ-yes}
 use Rattle.numbers.proofs.Balance.{same}
-use Rattle.numbers.proofs.Rounding.{twice}
 use Rattle.rules.specs.Digits.{digitAt, weighted}
 use Rattle.rules.specs.Widths.{widthN, widthR, row}
 use Rattle.rules.specs.Forms.{formN, formR, digitR}
-use Rattle.rules.specs.Keeps.{Keeps}
 use Rattle.rules.specs.Refusals.{Offered, FallsBelow, EndsPast}
 use Rattle.rules.proofs.ZeroDigit.{replicate-zero}
 use Rattle.rules.proofs.Sum.{cons-balance, zeros-sum}
 use Rattle.rules.proofs.NonAdjacent.{NonAdjacent, end, skip, put, nonadjacent-keeps}
 use Rattle.rules.proofs.RecoderN.{nafOf, recoded-n}
-use Rattle.rules.proofs.Radix.{before-digitR, zero-digitR}
+use Rattle.rules.proofs.Radix.{before-digitR, zero-digitR, unspaced}
 use Rattle.rules.proofs.RecoderR.{radixOf, recoded-r}
 use Rattle.rules.proofs.Table.{row-fits, width-between}
 
@@ -62,32 +60,22 @@ module _ (widest n w : ℕ) (a : T (widthN widest w)) (n⁺ : 0 < n) where
   pub ends-past-n : (ds : List ℤ) × Offered (formN widest n w) ds × EndsPast (formN widest n w) ds
   ends-past-n =
       let b = width-between 2 widest w a in
-      let r = recoded-n widest n w (2 ^ (n - 1)) (b .low) (omega (arith, twice n n⁺)) in
+      let r = recoded-n widest n w (2 ^ (n - 1)) (b .low) n⁺ (le-refl _) in
       (nafOf (w - 1) n (2 ^ (n - 1)), record { long = r .long; allowed = a }, record { keeps = r .keeps; past = end-sum (2 ^ (n - 1)) (r .sums) })
 
--- ---- R, over the width
+-- ---- R, over the number of entries and the width
 
-module _ (w : ℕ) (a : T (widthR w)) where
-  plain : (ds : List ℤ) → ((i : ℕ) → T (digitR w (row w .digits) (row w .top) i (digitAt ds i))) → Keeps (formR w) ds
-  plain ds f = record { digits = λ i l. f i; spacing = λ i j l m u v. absurd (omega arith) }
-
-  pub falls-below-r : (ds : List ℤ) × Offered (formR w) ds × FallsBelow (formR w) ds
+module _ (entries w : ℕ) (m : 64 ≤ entries) (a : T (widthR w)) where
+  pub falls-below-r : (ds : List ℤ) × Offered (formR entries w) ds × FallsBelow (formR entries w) ds
   unfolding minusOne
-  falls-below-r = (minusOne 63, record { long = long; allowed = a }, record { keeps = plain (minusOne 63) each; negative = negative-sum (minusOne-sum (2 ^ w) 63) })
+  falls-below-r = (minusOne (entries - 1), record { long = omega (arith, length-replicate (entries - 1) (pos 0)); allowed = a }, record { keeps = unspaced entries w each; negative = negative-sum (minusOne-sum (2 ^ w) (entries - 1)) })
     where
-      long : length (minusOne 63) ≡ 64
-      long = refl
-
-      each : (i : ℕ) → T (digitR w (row w .digits) (row w .top) i (digitAt (minusOne 63) i))
+      each : (i : ℕ) → T (digitR w (row w .digits) (row w .top) i (digitAt (minusOne (entries - 1)) i))
       each zero = before-digitR w (row w .digits) (row w .top) 0 (negsuc 0) (row-fits w a .several) (record { below = pow-pos (w - 1); above = pow-pos (w - 1) })
-      each (suc i) = rw (replicate-zero 63 i) (zero-digitR w (row w .digits) (row w .top) (suc i))
+      each (suc i) = rw (replicate-zero (entries - 1) i) (zero-digitR w (row w .digits) (row w .top) (suc i))
 
-  pub ends-past-r : (ds : List ℤ) × Offered (formR w) ds × EndsPast (formR w) ds
+  pub ends-past-r : (ds : List ℤ) × Offered (formR entries w) ds × EndsPast (formR entries w) ds
   ends-past-r =
-      let b = width-between 4 8 w a in
-      let f = row-fits w a in
-      let n = row w .digits in
       let x = 2 ^ row w .bits in
-      let ds = radixOf w (64 - n) (n - 1) x in
-      let r = recoded-r w n (row w .top) (64 - n) x (omega (arith, b .low)) (omega (arith, f .several)) (omega (arith, f .ends)) in
-      (ds, record { long = omega (arith, r .long, f .most); allowed = a }, record { keeps = plain ds (r .digits); past = end-sum x (r .sums) })
+      let r = recoded-r entries w x a m (le-refl x) in
+      (radixOf w (entries - row w .digits) (row w .digits - 1) x, record { long = r .long; allowed = a }, record { keeps = r .keeps; past = end-sum x (r .sums) })

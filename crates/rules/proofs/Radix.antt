@@ -15,7 +15,9 @@ use Rattle.numbers.proofs.Tests.{and-left, and-right, and-both, cond-true, cond
 use Rattle.numbers.proofs.Rounding.{Cancelled, cancel, twice}
 use Rattle.numbers.proofs.Balance.{up, dn, same}
 use Rattle.rules.specs.Digits.{digitAt, isZero, weighted}
-use Rattle.rules.specs.Forms.{digitR, within}
+use Rattle.rules.specs.Widths.{row}
+use Rattle.rules.specs.Forms.{digitR, within, formR}
+use Rattle.rules.specs.Keeps.{Keeps}
 use Rattle.rules.proofs.ZeroDigit.{zero-of}
 use Rattle.rules.proofs.Sum.{cons-balance, zero-up, zero-dn, nil-sum}
 
@@ -125,3 +127,7 @@ module _ (w n top : ℕ) where
       → length ds ≡ length es → weighted (2 ^ w) ds ≡ weighted (2 ^ w) es → ds ≡ es
   unfolding Digits
   unique-r w⁺ ds es f g l e = fixed w⁺ 0 ds es (λ k h. rw zero-add (f k h)) (λ k h. rw zero-add (g k h)) l (rw e refl)
+
+-- R asks no spacing: digits that keep their own rule keep the rules
+pub unspaced : (entries w : ℕ) {ds : List ℤ} → ((i : ℕ) → T (digitR w (row w .digits) (row w .top) i (digitAt ds i))) → Keeps (formR entries w) ds
+unspaced entries w f = record { digits = λ i l. f i; spacing = λ i j l m u v. absurd (omega arith) }

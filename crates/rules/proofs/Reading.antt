@@ -1,9 +1,8 @@
--- What a reader promises, over any form: what it takes to keep it, that it fixes the reply, and that a recoder's digits read back. Assumes nothing.
+-- What a reader promises, over any form: what it takes to keep it, and that it fixes the reply. Assumes nothing.
 use mathlib.Core.Path.{_≡_, sym, _∙_, ap}
 use mathlib.Core.Logic.{_≢_, _↔_, _⊎_, inl, inr}
 use mathlib.Core.List.{List}
-use Prim.Native.Nat.{ℕ, _<_}
-use lib.Dec.{T}
+use Prim.Native.Nat.{ℕ}
 use lib.ListN.{length, replicate}
 use lib.IntN.{ℤ, pos}
 use Rattle.rules.specs.declared.Verdict.{Verdict}
@@ -15,27 +14,26 @@ use Rattle.rules.specs.Keeps.{Passes}
 use Rattle.rules.specs.Verdicts.{number}
 use Rattle.rules.specs.Test.{firstFault, rangeFault, verdict}
 use Rattle.rules.specs.Refusals.{Offered}
-use Rattle.rules.specs.Promises.{Recodes, Reads}
+use Rattle.rules.specs.Promises.{Reads}
 use Rattle.rules.proofs.Integer.{integer-determines}
 use Rattle.rules.proofs.Verdicts.{done-or, done-orElse, refused-orElse}
 use Rattle.rules.proofs.Refusals.{offered-verdict, verdict-done}
-use Rattle.rules.proofs.Exactly.{passing}
 
 module _ (F : Form) (ds : List ℤ) where
   -- ---- what keeps the promise
 
   module _ (answer : Verdict) (bytes : List ℕ) where
     -- a refusal with zero bytes
-    pub reads-refused : (v : Verdict) → verdict F ds ≡ v → number v ≢ 0 → (answer ≡ v) × (bytes ≡ replicate 32 0) → Reads F ds answer bytes
+    pub reads-refused : (v : Verdict) → verdict F ds ≡ v → number v ≢ 0 → (answer ≡ v) × (bytes ≡ replicate (F .bytes) 0) → Reads F ds answer bytes
     reads-refused v e n r = record { answered = r .0 ∙ sym e; sums = λ d. absurd (n (ap number (sym (r .0) ∙ d))); zeros = λ d. r .1 }
 
     -- past the length and the width: what is wrong first, with zero bytes
-    pub reads-faulty : Offered F ds → (v : Verdict) → v ≡ firstFault F ds 0 (length ds) → number v ≢ 0 → (answer ≡ v) × (bytes ≡ replicate 32 0) → Reads F ds answer bytes
+    pub reads-faulty : Offered F ds → (v : Verdict) → v ≡ firstFault F ds 0 (length ds) → number v ≢ 0 → (answer ≡ v) × (bytes ≡ replicate (F .bytes) 0) → Reads F ds answer bytes
     reads-faulty o v e n r = reads-refused v (offered-verdict F ds o ∙ rw (← e) (refused-orElse v _ n)) n r
 
     -- and where nothing is, the sum against the range, with the bytes that have it
     pub reads-summed : Offered F ds → firstFault F ds 0 (length ds) ≡ Done → answer ≡ rangeFault (F .end) (weighted (F .base) ds)
-        → (answer ≡ Done → weighted (F .base) ds ≡ pos (integer bytes)) → (answer ≢ Done → bytes ≡ replicate 32 0) → Reads F ds answer bytes
+        → (answer ≡ Done → weighted (F .base) ds ≡ pos (integer bytes)) → (answer ≢ Done → bytes ≡ replicate (F .bytes) 0) → Reads F ds answer bytes
     reads-summed o f e s z = record { answered = e ∙ sym (offered-verdict F ds o ∙ rw f (done-orElse _)); sums = s; zeros = z }
 
   -- ---- what the promise gives
@@ -45,19 +43,9 @@ module _ (F : Form) (ds : List ℤ) where
   reads-exactly r = (λ e. verdict-done F ds .0 (sym (r .answered) ∙ e), λ p. r .answered ∙ verdict-done F ds .1 p)
 
   -- one reply
-  pub reads-determined : {answer answer′ : Verdict} {bytes bytes′ : List ℕ} → Bytes 32 bytes → Bytes 32 bytes′ → Reads F ds answer bytes → Reads F ds answer′ bytes′ → (answer ≡ answer′) × (bytes ≡ bytes′)
+  pub reads-determined : {answer answer′ : Verdict} {bytes bytes′ : List ℕ} → Bytes (F .bytes) bytes → Bytes (F .bytes) bytes′ → Reads F ds answer bytes → Reads F ds answer′ bytes′ → (answer ≡ answer′) × (bytes ≡ bytes′)
   reads-determined {answer} {answer′} {bytes} {bytes′} b b′ r r′ = let e : answer ≡ answer′ = r .answered ∙ sym (r′ .answered) in (e, go e (done-or answer′))
     where
       go : answer ≡ answer′ → (answer′ ≡ Done) ⊎ (number answer′ ≢ 0) → bytes ≡ bytes′
       go e (inl d) = integer-determines b b′ (cc (r .sums (e ∙ d), r′ .sums d))
       go e (inr n) = r .zeros (λ d. n (ap number (sym e ∙ d))) ∙ sym (r′ .zeros (λ d. n (ap number d)))
-
--- ---- a recoder's digits
-
-module _ (F : Form) {due : Verdict} {x : ℕ} {answer : Verdict} {digits : List ℤ} (recodes : Recodes F due x answer digits) (d : due ≡ Done) (a : T (F .allowed)) (h : x < F .end) where
-  pub recoded-passes : Passes F digits
-  recoded-passes = passing F digits x (recodes .long) a (recodes .keeps d) (recodes .sums d) h
-
-  -- read back they give the bytes that they came from
-  pub round-trip : {bs : List ℕ} → Bytes 32 bs → x ≡ integer bs → {answer′ : Verdict} {bytes′ : List ℕ} → Bytes 32 bytes′ → Reads F digits answer′ bytes′ → (answer′ ≡ Done) × (bytes′ ≡ bs)
-  round-trip b e b′ r = let d′ = reads-exactly F digits r .1 recoded-passes in (d′, integer-determines b′ b (cc (r .sums d′, recodes .sums d, e)))

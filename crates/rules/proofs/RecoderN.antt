@@ -17,7 +17,7 @@ use Rattle.numbers.proofs.Balance.{up, dn, same, abs-balance, one-sided}
 use Rattle.numbers.proofs.Rounding.{twice, round-down}
 use Rattle.rules.specs.Digits.{digitAt, weighted}
 use Rattle.rules.specs.Forms.{formN}
-use Rattle.rules.specs.Keeps.{Keeps}
+use Rattle.rules.specs.Promises.{Recoded}
 use Rattle.rules.proofs.Sum.{cons-balance}
 use Rattle.rules.proofs.NonAdjacent.{NonAdjacent, end, skip, put, nonadjacent-keeps}
 
@@ -135,15 +135,10 @@ module _ (g : ℕ) (g⁺ : 0 < g) where
       go : {d : ℤ} {y : ℕ} → (d ≡ pos 0) × (y ≡ 2 ^ k * q) → nafOf g (k + n) (2 ^ k * q) ≡ replicate k (pos 0) ++ nafOf g n q → d ∷ nafOf g (k + n) y ≡ pos 0 ∷ (replicate k (pos 0) ++ nafOf g n q)
       go p r = rw (p .0, p .1, r)
 
--- the string of x in n digits, x being at most 2^(n-1)
-pub record RecodedN (widest n w x : ℕ) (ds : List ℤ) : Type 0 where
-  pub long : length ds ≡ n
-  pub keeps : Keeps (formN widest n w) ds
-  pub sums : weighted 2 ds ≡ pos x
-
-pub recoded-n : (widest n w x : ℕ) → 1 < w → 2 * x ≤ 2 ^ n → RecodedN widest n w x (nafOf (w - 1) n x)
-recoded-n widest n w x h l = record {
+-- the string of x in n digits, x being at most the range's end
+pub recoded-n : (widest n w x : ℕ) → 2 ≤ w → 0 < n → x ≤ 2 ^ (n - 1) → Recoded (formN widest n w) x (nafOf (w - 1) n x)
+recoded-n widest n w x h n⁺ l = record {
   long = nafOf-length (w - 1) (omega arith) n x;
   keeps = nonadjacent-keeps widest n w (nafOf-nonadjacent (w - 1) (omega arith) n x);
-  sums = nafOf-sum (w - 1) (omega arith) n x l;
+  sums = nafOf-sum (w - 1) (omega arith) n x (omega (arith, twice n n⁺));
 }

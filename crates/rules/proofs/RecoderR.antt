@@ -1,4 +1,4 @@
--- Every integer of R's range has a string: a recoder as a function on numbers, over the width, the number of digits and the last digit's top. Assumes nothing.
+-- Every integer of R's range has a string: a recoder as a function on numbers, over the width, the number of digits and the last digit's top, and then by R's table. Assumes nothing.
 use mathlib.Core.Path.{_≡_, sym}
 use mathlib.Core.List.{List, _∷_}
 use Prim.Native.Nat.{ℕ, zero, suc, _+_, _-_, _*_, _/_, _%_, _^_, _≤_, _<_, zero-le}
@@ -14,10 +14,13 @@ use Rattle.numbers.specs.Centred.{centred, carried}
 use Rattle.numbers.proofs.Centred.{centred-is}
 use Rattle.numbers.proofs.Balance.{up, dn, same}
 use Rattle.rules.specs.Digits.{digitAt, weighted}
-use Rattle.rules.specs.Forms.{digitR}
+use Rattle.rules.specs.Widths.{widthR, row}
+use Rattle.rules.specs.Forms.{digitR, formR}
+use Rattle.rules.specs.Promises.{Recoded}
 use Rattle.rules.proofs.ZeroDigit.{replicate-zero}
 use Rattle.rules.proofs.Sum.{cons-balance, zeros-sum}
-use Rattle.rules.proofs.Radix.{Between, before-digitR, zero-digitR}
+use Rattle.rules.proofs.Radix.{Between, before-digitR, zero-digitR, unspaced}
+use Rattle.rules.proofs.Table.{row-fits, width-between}
 
 -- the lowest digit of x, and what is left of x above it
 unfoldable pub radixDigit : ℕ → ℕ → ℤ
@@ -82,17 +85,16 @@ module _ (w : ℕ) (w⁺ : 0 < w) where
         rw (one-fewer (suc m) k)
         (radixOf-digits pad m (radixNext w x) k (fits-above x (top * (2 ^ w) ^ m) (radix-step x) (omega (arith, rw (pow-suc (2 ^ w) m) at h))))
 
--- the string of x in n digits and `pad` zeros, x being at most the top of the last digit times its weight
-pub record RecodedR (w n top pad x : ℕ) (ds : List ℤ) : Type 0 where
-  pub long : length ds ≡ n + pad
-  pub digits : (i : ℕ) → T (digitR w n top i (digitAt ds i))
-  pub sums : weighted (2 ^ w) ds ≡ pos x
-
-pub recoded-r : (w n top pad x : ℕ) → 0 < w → 0 < n → x ≤ top * (2 ^ w) ^ (n - 1) → RecodedR w n top pad x (radixOf w pad (n - 1) x)
-recoded-r w n top pad x w⁺ n⁺ h =
-    let e : suc (n - 1) ≡ n = omega arith in
+-- the string of x in the row's digits and zeros up to so many entries, x being at most the range's end
+pub recoded-r : (entries w x : ℕ) → T (widthR w) → 64 ≤ entries → x ≤ 2 ^ row w .bits → Recoded (formR entries w) x (radixOf w (entries - row w .digits) (row w .digits - 1) x)
+recoded-r entries w x t m h =
+    let n = row w .digits in
+    let f = row-fits w t in
+    let w⁺ : 0 < w = omega (arith, width-between 4 8 w t .low) in
+    let e : suc (n - 1) ≡ n = omega (arith, f .several) in
+    let l : x ≤ row w .top * (2 ^ w) ^ (n - 1) = omega (arith, f .ends) in
     record {
-      long = omega (arith, radixOf-length w w⁺ pad (n - 1) x);
-      digits = λ i. rw e at (radixOf-digits w w⁺ top pad (n - 1) x i h);
-      sums = radixOf-sum w w⁺ pad (n - 1) x;
+      long = omega (arith, radixOf-length w w⁺ (entries - n) (n - 1) x, f .several, f .most);
+      keeps = unspaced entries w (λ i. rw e at (radixOf-digits w w⁺ (row w .top) (entries - n) (n - 1) x i l));
+      sums = radixOf-sum w w⁺ (entries - n) (n - 1) x;
     }

@@ -5,7 +5,7 @@ use mathlib.Core.Bool.{Bool, true, false, not}
 use mathlib.Core.List.{List}
 use Prim.Native.Nat.{ℕ, _≤_, _<_, zero-le}
 use native.Mathlib.Omega.{arith}
-use lib.Dec.{T, ltb, leb, eqb, eqb→eq, eqb-refl, not-T, T-not, ltb→lt, le→leb, leb→le, nltb→le}
+use lib.Dec.{T, ltb, eqb, eqb→eq, eqb-refl, not-T, T-not, ltb→lt, le→leb, leb→le, nltb→le}
 use lib.ListN.{length}
 use lib.IntN.{ℤ, pos, negsuc}
 use lib.Signed.{_≤ℤ_, _<ℤ_, leZ-yes, ltZ-yes}
@@ -14,7 +14,7 @@ use Rattle.rules.specs.declared.Verdict.the-variants.{Done, WrongLength,
 use Rattle.rules.specs.Digits.{weighted}
 use Rattle.rules.specs.Forms.{Form}
 use Rattle.rules.specs.Keeps.{Keeps, Passes}
-use Rattle.rules.specs.Verdicts.{_orElse_}
+use Rattle.rules.specs.Verdicts.{position, _orElse_}
 use Rattle.rules.specs.Test.{firstFault, rangeFault, verdict}
 use Rattle.rules.specs.Refusals.{Offered, BreaksAt, CrowdsAt, FallsBelow, EndsPast, GivenIf}
 use Rattle.rules.proofs.Verdicts.{done-orElse, refused-orElse, unless-held, unless-failed}
@@ -120,3 +120,19 @@ module _ (F : Form) (ds : List ℤ) where
 
   pub refused-8 : verdict F ds ≡ PastEnd ↔ Offered F ds × EndsPast F ds
   refused-8 = verdict-exactly PastEnd
+
+  -- the position is an index of the string
+  pub position-inside : 0 < F .long → position (verdict F ds) < F .long
+  position-inside h = go (verdict F ds) (verdict-exactly (verdict F ds) .0 refl)
+    where
+      go : (v : Verdict) → GivenIf F ds v → position v < F .long
+      go Done g = h
+      go WrongLength g = h
+      go WrongForm g = h
+      go WrongWidth g = h
+      go TooWide g = h
+      go (BrokenDigit k) g = omega (arith, g .0 .long, g .1 .inside)
+      go (Crowded k) g = omega (arith, g .0 .long, g .1 .inside)
+      go Negative g = h
+      go PastEnd g = h
+      go WrongChoice g = h

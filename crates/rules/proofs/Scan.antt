@@ -17,20 +17,9 @@ use Rattle.rules.specs.Forms.{Form}
 use Rattle.rules.specs.Keeps.{Keeps}
 use Rattle.rules.specs.Verdicts.{unless, _orElse_}
 use Rattle.rules.specs.Refusals.{BreaksAt, CrowdsAt}
+use Rattle.rules.specs.inner.Scan.{fault, heldNext, scan}
 use Rattle.rules.proofs.Verdicts.{done-orElse, refused-orElse, unless-held, unless-failed}
 use Rattle.rules.proofs.ZeroDigit.{zero-or, nonzero-of, nonzero-is, Zeros, no-zeros, zeros-head}
-
--- digit d at index i, where `held` says how many digits from here on lie within the gap after the last non-zero one
-unfoldable pub fault : Form → ℕ → ℕ → ℤ → Verdict
-fault F i held d = unless (F .own i d) (BrokenDigit i) orElse unless (isZero d || eqb held 0) (Crowded i)
-
-abbrev pub heldNext : ℕ → ℕ → ℤ → ℕ
-heldNext gap held d = cond (isZero d) (held - 1) gap
-
--- the digits from index i up
-unfoldable pub scan : Form → ℕ → ℕ → List ℤ → Verdict
-scan F i held [] = Done
-scan F i held (d ∷ ds) = fault F i held d orElse scan F (suc i) (heldNext (F .gap) held d) ds
 
 -- ---- the rules, digit by digit
 

@@ -1,7 +1,8 @@
 -- R's table: in every row the top of the last digit times its weight is the range's end, and there are from 2 to 64 digits. One computed test. Assumes nothing.
-use mathlib.Core.Path.{_≡_}
+use mathlib.Core.Path.{_≡_, refl}
+use mathlib.Core.Logic.{_≢_}
 use mathlib.Core.Bool.{Bool, _&&_}
-use Prim.Native.Nat.{ℕ, _+_, _-_, _*_, _^_, _≤_, _<_}
+use Prim.Native.Nat.{ℕ, zero, suc, _+_, _-_, _*_, _^_, _≤_, _<_}
 use native.Mathlib.Omega.{arith}
 use lib.Dec.{T, leb, ltb, eqb, leb→le, ltb→lt, eqb→eq}
 use Rattle.numbers.proofs.Tests.{and-left, and-right}
@@ -38,3 +39,24 @@ row-fits w t =
     let b = width-between 4 8 w t in
     let e : 4 + (w - 4) ≡ w = omega (arith, b .low) in
     fitting-row w (rw e at (below-at (λ k. fitting (4 + k)) 5 (w - 4) tt (omega (arith, b .low, b .high))))
+
+-- ---- a law that holds at each of the five widths
+
+pub at-widths : (P : ℕ → Type 0) → P 4 → P 5 → P 6 → P 7 → P 8 → (w : ℕ) → T (widthR w) → P w
+at-widths P a b c d e w t =
+    let s = width-between 4 8 w t in
+    let n : 4 + (w - 4) ≡ w = omega (arith, s .low) in
+    rw n at (go (w - 4) (omega (arith, s .high)))
+  where
+    go : (k : ℕ) → k ≤ 4 → P (4 + k)
+    go zero h = a
+    go (suc zero) h = b
+    go (suc (suc zero)) h = c
+    go (suc (suc (suc zero))) h = d
+    go (suc (suc (suc (suc zero)))) h = e
+    go (suc (suc (suc (suc (suc k))))) h = absurd (omega arith)
+
+-- width 4 alone leaves the top bit free
+pub all-bits : (w : ℕ) → T (widthR w) → w ≢ 4 → row w .bits ≡ 256
+unfolding row
+all-bits = at-widths (λ w. w ≢ 4 → row w .bits ≡ 256) (λ n. absurd (n refl)) (λ n. refl) (λ n. refl) (λ n. refl) (λ n. refl)

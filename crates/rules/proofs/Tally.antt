@@ -1,6 +1,6 @@
 -- The count and the number of non-zero digits of a string that is filled from the front: while it is all zeros, and with one digit more. Assumes nothing.
-use mathlib.Core.Path.{_≡_, refl}
-use mathlib.Core.Logic.{_≢_}
+use mathlib.Core.Path.{_≡_, refl, _∙_}
+use mathlib.Core.Logic.{_≢_, _↔_}
 use mathlib.Core.Bool.{Bool, true, false, cond, _&&_}
 use mathlib.Core.List.{List, [], _∷_}
 use Prim.Native.Nat.{ℕ, zero, suc, _+_, _≤_, _<_}
@@ -8,8 +8,8 @@ use native.Mathlib.Omega.{arith}
 use lib.Dec.{eqb, eqb·suc-zero}
 use lib.ListN.{length, set}
 use lib.IntN.{ℤ, pos}
-use Rattle.rules.specs.Digits.{digitAt, isZero, count, nonZeros}
-use Rattle.rules.proofs.ZeroDigit.{nonzero-of}
+use Rattle.rules.specs.Digits.{digitAt, isZero, count, nonZeros, additions}
+use Rattle.rules.proofs.ZeroDigit.{zero-of, nonzero-of, nonzero-is}
 
 -- from index `at` on the digits are 0
 abbrev pub ZeroFrom : ℕ → List ℤ → Type 0
@@ -61,6 +61,20 @@ nonZeros-put (e ∷ ds) (suc at) d l z f = under (isZero e) _ _ (nonZeros-put ds
     under true m n h = h
     under false m n h = omega arith
 
+-- no more digits are not zero than there are
+pub nonZeros-most : (ds : List ℤ) → nonZeros ds ≤ length ds
+unfolding nonZeros
+nonZeros-most [] = omega arith
+nonZeros-most (d ∷ ds) = go (isZero d) (nonZeros-most ds)
+  where
+    go : (b : Bool) → nonZeros ds ≤ length ds → cond b (nonZeros ds) (1 + nonZeros ds) ≤ suc (length ds)
+    go true l = omega arith
+    go false l = omega arith
+
+pub additions-most : (ds : List ℤ) → additions ds ≤ length ds
+unfolding additions
+additions-most ds = nonZeros-most ds
+
 -- the count reaches no further than the string
 pub count-most : (ds : List ℤ) → count ds ≤ length ds
 unfolding count
@@ -70,3 +84,53 @@ count-most (d ∷ ds) = go (isZero d && eqb (count ds) 0) (count-most ds)
     go : (b : Bool) → count ds ≤ length ds → cond b 0 (1 + count ds) ≤ suc (length ds)
     go true l = omega arith
     go false l = omega arith
+
+-- ---- what the count is: one more than the highest index of a non-zero digit, and 0 if there is none
+
+nothing-counted : (b : Bool) (c : ℕ) → cond (b && eqb c 0) 0 (1 + c) ≡ 0 → (b ≡ true) × (c ≡ 0)
+nothing-counted true zero e = (refl, refl)
+nothing-counted true (suc c) e = absurd (omega (arith, rw (eqb·suc-zero c) at e))
+nothing-counted false c e = absurd (omega arith)
+
+counted-one-more : (b : Bool) (c k : ℕ) → cond (b && eqb c 0) 0 (1 + c) ≡ suc k → (c ≡ k) × (c ≡ 0 → b ≡ false)
+counted-one-more true zero k e = absurd (omega arith)
+counted-one-more true (suc c) k e = (omega (arith, rw (eqb·suc-zero c) at e), λ z. absurd (omega arith))
+counted-one-more false c k e = (omega arith, λ z. refl)
+
+all-zero : (ds : List ℤ) → count ds ≡ 0 → ZeroFrom 0 ds
+unfolding count
+all-zero [] e i l = refl
+all-zero (d ∷ ds) e zero l = zero-of d (rw (nothing-counted (isZero d) (count ds) e .0) tt)
+all-zero (d ∷ ds) e (suc i) l = all-zero ds (nothing-counted (isZero d) (count ds) e .1) i (omega arith)
+
+highest : (ds : List ℤ) (k : ℕ) → count ds ≡ suc k → (digitAt ds k ≢ pos 0) × ZeroFrom (suc k) ds
+unfolding count
+highest [] k e = absurd (omega arith)
+highest (d ∷ ds) zero e =
+    let p = counted-one-more (isZero d) (count ds) 0 e in
+    (nonzero-is d (p .1 (p .0)), λ i l. above i l (all-zero ds (p .0)))
+  where
+    above : (i : ℕ) → 1 ≤ i → ZeroFrom 0 ds → digitAt (d ∷ ds) i ≡ pos 0
+    above zero l z = absurd (omega arith)
+    above (suc i) l z = z i (omega arith)
+highest (d ∷ ds) (suc k) e =
+    let r = highest ds k (counted-one-more (isZero d) (count ds) (suc k) e .0) in
+    (r .0, λ i l. above i l (r .1))
+  where
+    above : (i : ℕ) → suc (suc k) ≤ i → ZeroFrom (suc k) ds → digitAt (d ∷ ds) i ≡ pos 0
+    above zero l z = absurd (omega arith)
+    above (suc i) l z = z i (omega arith)
+
+counted-highest : (ds : List ℤ) (k : ℕ) → digitAt ds k ≢ pos 0 → ZeroFrom (suc k) ds → count ds ≡ suc k
+unfolding count
+counted-highest [] k f z = absurd (f refl)
+counted-highest (d ∷ ds) zero f z = rw (nonzero-of d f, count-zero ds (λ i l. z (suc i) (omega arith)))
+counted-highest (d ∷ ds) (suc k) f z =
+    let r = counted-highest ds k f (λ i l. z (suc i) (omega arith)) in
+    longer (isZero d) (count ds) k r ∙ omega (arith, r)
+
+pub count-none : (ds : List ℤ) → count ds ≡ 0 ↔ ZeroFrom 0 ds
+count-none ds = (all-zero ds, count-zero ds)
+
+pub count-highest : (ds : List ℤ) (k : ℕ) → count ds ≡ suc k ↔ ((digitAt ds k ≢ pos 0) × ZeroFrom (suc k) ds)
+count-highest ds k = (highest ds k, λ p. counted-highest ds k (p .0) (p .1))

@@ -2,9 +2,9 @@
 use mathlib.Core.Path.{_≡_, refl, sym, _∙_, ap}
 use mathlib.Core.Logic.{_≢_, _⊎_, inl, inr}
 use mathlib.Core.Bool.{Bool, true, false, not, cond}
-use Prim.Native.Nat.{ℕ, zero, suc}
+use Prim.Native.Nat.{ℕ, zero, suc, _<_}
 use native.Mathlib.Omega.{arith}
-use lib.Dec.{T, eqb, eqb·suc-zero}
+use lib.Dec.{T, eqb, eqb·suc-zero, lit<}
 use Rattle.rules.specs.declared.Verdict.{Verdict}
 use Rattle.rules.specs.declared.Verdict.the-variants.{Done, WrongLength, WrongForm, WrongWidth, TooWide, BrokenDigit, Crowded, Negative, PastEnd, WrongChoice}
 use Rattle.rules.specs.Verdicts.{number, position, unless, _orElse_}
@@ -52,10 +52,35 @@ done-or v = go (number v) refl
     go zero e = inl (number-zero v e)
     go (suc n) e = inr (λ z. omega arith)
 
+-- a verdict is done or a refusal
+pub done-or-refused : {A : Type 0} (v : Verdict) → (v ≡ Done → A) → (v ≢ Done → A) → A
+done-or-refused {A} v f g = go (done-or v)
+  where
+    go : (v ≡ Done) ⊎ (number v ≢ 0) → A
+    go (inl e) = f e
+    go (inr n) = g (λ e. n (ap number e))
+
+-- a number fits a byte
+pub number-small : (v : Verdict) → number v < 256
+number-small Done = lit< tt
+number-small WrongLength = lit< tt
+number-small WrongForm = lit< tt
+number-small WrongWidth = lit< tt
+number-small TooWide = lit< tt
+number-small (BrokenDigit i) = lit< tt
+number-small (Crowded i) = lit< tt
+number-small Negative = lit< tt
+number-small PastEnd = lit< tt
+number-small WrongChoice = lit< tt
+
 -- what comes first decides, unless it is done
 pub done-orElse : (v : Verdict) → Done orElse v ≡ v
 unfolding _orElse_
 done-orElse v = refl
+
+pub passed-on : (u v : Verdict) → number u ≡ 0 → u orElse v ≡ v
+unfolding _orElse_
+passed-on u v e = rw e
 
 pub refused-orElse : (u v : Verdict) → number u ≢ 0 → u orElse v ≡ u
 unfolding _orElse_

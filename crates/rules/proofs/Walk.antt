@@ -13,7 +13,7 @@ use Rattle.rules.specs.Digits.{digitAt}
 use Rattle.rules.specs.Forms.{Form}
 use Rattle.rules.specs.Verdicts.{number, _orElse_}
 use Rattle.rules.proofs.Verdicts.{done-orElse, refused-orElse, number-zero}
-use Rattle.rules.proofs.Scan.{fault, heldNext, scan}
+use Rattle.rules.specs.inner.Scan.{fault, heldNext, scan}
 
 module _ (F : Form) (i held : ℕ) (ds : List ℤ) where
   walk-at : i < length ds → scan F i held (drop i ds) ≡ fault F i held (digitAt ds i) orElse scan F (suc i) (heldNext (F .gap) held (digitAt ds i)) (drop (suc i) ds)

@@ -7,8 +7,7 @@ use lib.ListN.{replicate, set}
 use lib.IntN.{ℤ, pos, negsuc, negℤ}
 use Rattle.rules.specs.declared.Verdict.{Verdict}
 use Rattle.rules.specs.declared.Verdict.the-variants.{Done, Negative, PastEnd}
-use Rattle.rules.specs.Digits.{weighted, count}
-use Rattle.rules.specs.Widths.{row}
+use Rattle.rules.specs.Digits.{weighted}
 use Rattle.rules.specs.Forms.{Form, cardN, cardR}
 use Rattle.rules.specs.Verdicts.{number, position}
 use Rattle.rules.specs.Test.{verdict}
@@ -52,18 +51,18 @@ countWith : Verdict → ℕ → ℕ
 countWith v k = cond (eqb (number v) 0) k 0
 
 -- The string with this sum gets this verdict, and this count.
-holdsOf : Form → ℕ → List ℤ → ℤ → Verdict → ℕ → Bool
-holdsOf F k ds z v c = sameSum (weighted (F .base) ds) z && sameVerdict (verdict F ds) v && eqb (countWith v k) c
+holdsOf : Form → List ℤ → ℤ → Verdict → ℕ → Bool
+holdsOf F ds z v c = sameSum (weighted (F .base) ds) z && sameVerdict (verdict F ds) v && eqb (countWith v (F .counted ds)) c
 
--- A row of N, or of R, which counts the digits of its width.
-holdsAs : Letter → ℕ → List Named → ℤ → Verdict → ℕ → Bool
-holdsAs N w es z v c = holdsOf (cardN w) (count (placed 256 es)) (placed 256 es) z v c
-holdsAs R w es z v c = holdsOf (cardR w) (row w .digits) (placed 64 es) z v c
+-- The form of a letter.
+formOf : Letter → ℕ → Form
+formOf N w = cardN w
+formOf R w = cardR w
 
--- A row is right: N's count is that of the digits, R's the number of digits of its width.
+-- A row is right.
 unfoldable pub holds : Figure → Bool
-unfolding sameSum sameVerdict countWith holdsOf holdsAs
-holds f = holdsAs (f .letter) (f .width) (f .named) (f .sum) (f .answer) (f .counted)
+unfolding sameSum sameVerdict countWith holdsOf formOf
+holds f = let F = formOf (f .letter) (f .width) in holdsOf F (placed (F .long) (f .named)) (f .sum) (f .answer) (f .counted)
 
 -- Every row is right.
 unfoldable pub allHold : List Figure → Bool

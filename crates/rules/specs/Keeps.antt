@@ -22,3 +22,7 @@ pub record Passes (F : Form) (ds : List ℤ) : Type 0 where
   pub keeps : Keeps F ds
   pub low : pos 0 ≤ℤ weighted (F .base) ds
   pub high : weighted (F .base) ds <ℤ pos (F .end)
+
+-- The integers that a form takes: those of its range.
+pub record Takes (F : Form) (x : ℕ) : Type 0 where
+  pub inside : x < F .end

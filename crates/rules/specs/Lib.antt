@@ -9,3 +9,4 @@ pub mod Refusals
 pub mod Promises
 pub mod Exactly
 pub mod Figures
+pub mod inner

@@ -55,3 +55,16 @@ GivenIf F ds (Crowded k) = Offered F ds × CrowdsAt F ds k
 GivenIf F ds Negative = Offered F ds × FallsBelow F ds
 GivenIf F ds PastEnd = Offered F ds × EndsPast F ds
 GivenIf F ds WrongChoice = ⊥
+
+-- The table for a recoder's call, line by line: every other line is not a recoder's.
+abbrev pub DueIf : Form → List ℕ → Verdict → Type 0
+DueIf F bytes Done = T (F .allowed) × T (F .room bytes)
+DueIf F bytes WrongLength = ⊥
+DueIf F bytes WrongForm = ⊥
+DueIf F bytes WrongWidth = T (not (F .allowed))
+DueIf F bytes TooWide = T (F .allowed) × T (not (F .room bytes))
+DueIf F bytes (BrokenDigit k) = ⊥
+DueIf F bytes (Crowded k) = ⊥
+DueIf F bytes Negative = ⊥
+DueIf F bytes PastEnd = ⊥
+DueIf F bytes WrongChoice = ⊥

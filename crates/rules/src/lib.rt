@@ -1,6 +1,6 @@
 // The verdicts of document 01. Its rules stand in specs/ as definitions, and the laws about them in proofs/.
 ghost use mathlib.Core.Path.{_≡_};
-ghost use Rattle.rules.specs.Verdicts.{number, position};
+ghost use Rattle.rules.specs.Verdicts.{number, position, _orElse_};
 
 // What an entry answers: done, or one of the refusals of 01's table, in the table's order.
 pub enum Verdict {
@@ -61,5 +61,14 @@ impl Verdict {
             Verdict::PastEnd => 0,
             Verdict::WrongChoice => 0,
         }
+    }
+    // This verdict if it is a refusal, otherwise the next: what is tried first goes first.
+    pub fn or_else(self, next: Verdict) -> Verdict
+        ensures { λ r. ⌜ r ≡ self orElse next ⌝ }
+    {
+        if self.number() != 0 {
+            return self;
+        }
+        next
     }
 }
