@@ -1,4 +1,3 @@
-pub mod TopByte
 pub mod Reduced
 pub mod Selects
 pub mod Zeroized

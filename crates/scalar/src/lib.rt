@@ -1,4 +1,5 @@
 // The scalar: 32 bytes that stand for an integer, and what needs no digits.
+pub mod reply;
 pub mod select;
 pub mod slice;
 pub mod zeroize;

@@ -1,15 +1,12 @@
 // A scalar from a lent slice.
 use crate::Scalar;
+use crate::reply::Reply;
+use crate::reply::done;
+use crate::reply::refused;
 use rules::Verdict;
 ghost use mathlib.Core.Path.{_≡_};
 ghost use lib.ListN.{length};
 ghost use Rattle.scalar.specs.FromSlice.{FromSlice};
-
-// What was taken from a slice.
-pub struct Taken {
-    pub verdict: Verdict,
-    pub scalar: Scalar,
-}
 
 // The bytes of a slice of 32.
 fn copied(src: &[u8]) -> Scalar
@@ -24,18 +21,11 @@ fn copied(src: &[u8]) -> Scalar
 }
 
 // 32 bytes are taken as they are; another length is refused, with zero bytes.
-pub fn from_slice(src: &[u8]) -> Taken
+pub fn from_slice(src: &[u8]) -> Reply
     ensures { λ r. ⌜ FromSlice (now (src .entry)) (r .verdict) (r .scalar .bytes) ⌝ }
 {
     if src.len() != 32 {
-        return Taken {
-            verdict: Verdict::WrongLength,
-            scalar: Scalar::ZERO,
-        };
+        return refused(Verdict::WrongLength);
     }
-    let scalar = copied(src);
-    Taken {
-        verdict: Verdict::Done,
-        scalar,
-    }
+    done(copied(src))
 }

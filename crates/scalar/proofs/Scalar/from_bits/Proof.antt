@@ -10,12 +10,6 @@ use Rattle.numbers.proofs.TopDigit.{top-reduced}
 use Rattle.scalar.proofs.Scalar.from_bits.Statement.{statement}
 use Rattle.scalar.proofs.Scalar.from_bits.Tie as tie
 
-array-read-b : tie.Need-array-read-b
-array-read-b c = search needs
-
-array-write-b : tie.Need-array-write-b
-array-write-b c = search needs
-
 long : (c : tie.Start) → length (c .args .bytes) ≡ 32
 long c = search needs
 
@@ -26,4 +20,4 @@ returns : tie.Need-returns
 returns c = record { reduced = top-reduced 256 (c .args .bytes) 31 (long c) (λ k. byte c k .fits) 128 (lit< tt) }
 
 pub from-bits-spec : {M : Type 1} → statement M
-from-bits-spec = tie.close (tie.spec array-read-b array-write-b returns)
+from-bits-spec = tie.close (tie.spec (λ c. search needs) (λ c. search needs) returns)

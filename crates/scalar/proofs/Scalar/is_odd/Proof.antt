@@ -10,9 +10,6 @@ use Rattle.rules.specs.Integer.{integer}
 use Rattle.scalar.proofs.Scalar.is_odd.Statement.{statement}
 use Rattle.scalar.proofs.Scalar.is_odd.Tie as tie
 
-array-read-result : tie.Need-array-read-result
-array-read-result c = search needs
-
 returns : tie.Need-returns
 returns c =
     let bs = c .before .args .self .bytes in
@@ -20,4 +17,4 @@ returns c =
     ap (λ (n : ℕ). eqb n 1) e
 
 pub is-odd-spec : {M : Type 1} → statement M
-is-odd-spec = tie.close (tie.spec array-read-result returns)
+is-odd-spec = tie.close (tie.spec (λ c. search needs) returns)
