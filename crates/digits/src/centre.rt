@@ -1,59 +1,35 @@
 // A window of bits made a signed digit.
 ghost use mathlib.Core.Path.{_≡_};
-ghost use Prim.Native.Nat.{_+_, _<_, _≤_};
+ghost use Prim.Native.Nat.{_^_, _<_, _≤_};
 ghost use lib.IntN.{subℕ};
-ghost use Rattle.digits.specs.Centre.{Outside, Carries, Centres};
+ghost use Rattle.numbers.specs.Centred.{centred, carried};
 
-// A digit, and what it carries to the next.
+// A digit, and what it carries to the next. The digit is wide enough for every window: who stores it narrows it.
 pub struct Centred {
-    pub digit: i8,
+    pub digit: i64,
     pub carry: u32,
-}
-
-// A window less a span: subtracted in a wider signed number, then a cast that loses nothing.
-fn less(window: u32, span: u32) -> i8
-    requires { ⌜ (window < span + 128) × (span ≤ window + 128) × (span ≤ 256) ⌝ }
-    ensures { λ r. ⌜ r ≡ subℕ window span ⌝ }
-{
-    ((window as i32) - (span as i32)) as i8
-}
-
-// Whether a window is past its span, or half the span past 128: such a window has no digit.
-fn outside(window: u32, half: u32) -> bool
-    ensures { λ r. ⌜ Outside window half r ⌝ }
-{
-    if 128 < half {
-        return true;
-    }
-    2 * half < window
 }
 
 // What a window carries: 1 from half its span on. Not a branch, which half of the windows would take.
 fn carry_of(window: u32, half: u32) -> u32
-    ensures { λ r. ⌜ Carries window half r ⌝ }
+    ensures { λ r. ⌜ (r ≡ carried half window) × (r ≤ 1) ⌝ }
 {
-    if outside(window, half) {
-        return 0;
-    }
-    (window + (256 - half)) / 256
+    (half <= window) as u32
 }
 
-// The window less its span, if that is carried.
-fn digit_of(window: u32, half: u32, carry: u32) -> i8
-    requires { ⌜ Carries window half carry ⌝ }
-    ensures { λ r. ⌜ Centres window half r carry ⌝ }
+// A window less a span, in a wider signed number.
+fn less(window: u64, span: u64) -> i64
+    requires { ⌜ (window < 2 ^ 34) × (span < 2 ^ 34) ⌝ }
+    ensures { λ r. ⌜ r ≡ subℕ window span ⌝ }
 {
-    if outside(window, half) {
-        return 0;
-    }
-    less(window, carry * (2 * half))
+    (window as i64) - (span as i64)
 }
 
 // The digit of a window, where `half` is half its span, and its carry.
 pub fn centre(window: u32, half: u32) -> Centred
-    ensures { λ r. ⌜ Centres window half (r .digit) (r .carry) ⌝ }
+    ensures { λ r. ⌜ (r .digit ≡ centred half window) × (r .carry ≡ carried half window) × (r .carry ≤ 1) ⌝ }
 {
     let carry = carry_of(window, half);
-    let digit = digit_of(window, half, carry);
+    let digit = less(window as u64, (carry as u64) * (2 * (half as u64)));
     Centred { digit, carry }
 }

@@ -1,5 +1,4 @@
-pub mod Span
 pub mod Places
 pub mod Due
-pub mod Replies
-pub mod NafPromise
+pub mod Made
+pub mod Implied

@@ -13,7 +13,7 @@ use lib.ListN.{length, take, drop, set, replicate, length-drop, length-set, leng
 use lib.Seq.{take-all, take-suc, take-add, take-set-le, take-nil, drop-cons, getD-set-same, getD-set-other, drop-set-lt, lt-length-set, getD-drop}
 use lib.Pow.{pow-pos, shr-shr}
 use lib.IntN.{ℤ, pos}
-use Rattle.naf.specs.Turns.{StepN}
+use Rattle.naf.specs.inner.Turns.{StepN}
 use Rattle.numbers.specs.Centred.{centred, carried}
 use Rattle.numbers.proofs.Rounding.{twice}
 use Rattle.rules.specs.Digits.{digitAt, isZero, count, nonZeros}

@@ -1,2 +1,1 @@
-pub mod NonAdjacentForm
-pub mod Turns
+pub mod inner

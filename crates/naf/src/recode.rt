@@ -1,6 +1,5 @@
 // Form N's recoder: the integer of a scalar as a string of odd digits with zeros between them.
 use digits::centre::centre;
-use digits::half::half_of;
 use rules::Verdict;
 use scalar::Scalar;
 use window::window;
@@ -9,11 +8,10 @@ ghost use Prim.Native.Nat.{_+_, _/_, _%_, _^_, _<_, _≤_};
 ghost use Rattle.rules.specs.Integer.{integer};
 ghost use Rattle.rules.specs.Digits.{count, additions};
 ghost use Rattle.rules.specs.Forms.{cardN};
-ghost use Rattle.rules.specs.Promises.{Recoded};
+ghost use Rattle.rules.specs.Promises.{Recoded, Recodes};
 ghost use lib.ListN.{replicate};
 ghost use lib.IntN.{pos};
-ghost use Rattle.naf.specs.NonAdjacentForm.{RecodesN};
-ghost use Rattle.naf.specs.Turns.{StepN, HalfN};
+ghost use Rattle.naf.specs.inner.Turns.{StepN, HalfN};
 
 // The digits, the lowest first; one more than the index of the highest that is not zero; and how many are not zero.
 pub struct NonAdjacent {
@@ -35,7 +33,7 @@ fn step(bytes: &[u8], at: usize, carry: u32, w: usize, half: u32) -> Turn
     requires { ⌜ HalfN w half × (carry ≤ 1) ⌝ }
     ensures { λ r. ⌜ StepN w (integer (now (bytes .entry)) / 2 ^ at % 2 ^ w + carry) carry (r .odd) (r .digit) (r .carry) ⌝ }
 {
-    let x = window(bytes, at, w as u32) + carry;
+    let x = window(bytes, at, w) + carry;
     if x % 2 == 0 {
         return Turn {
             odd: false,
@@ -44,7 +42,7 @@ fn step(bytes: &[u8], at: usize, carry: u32, w: usize, half: u32) -> Turn
         };
     }
     let c = centre(x, half);
-    let digit = c.digit;
+    let digit = c.digit as i8;
     Turn {
         odd: true,
         digit,
@@ -98,7 +96,7 @@ fn refused(verdict: Verdict) -> NonAdjacent
 
 // Widths 2 to 8, and then byte 31 at most 127; any other call is refused, with zeros.
 pub fn non_adjacent_form(s: Scalar, w: usize) -> NonAdjacent
-    ensures { λ r. ⌜ RecodesN (s .bytes) w (r .verdict) (r .digits) (r .count) (r .additions) ⌝ }
+    ensures { λ r. ⌜ Recodes (cardN w) (s .bytes) (r .verdict) (r .digits) (r .count) (r .additions) ⌝ }
 {
     if w < 2 {
         return refused(Verdict::WrongWidth);
@@ -110,5 +108,5 @@ pub fn non_adjacent_form(s: Scalar, w: usize) -> NonAdjacent
     if 127 < bytes[31] {
         return refused(Verdict::TooWide);
     }
-    recode(&bytes, w, half_of(w))
+    recode(&bytes, w, 1 << (w - 1))
 }

@@ -1,22 +1,19 @@
 -- Radix 2^w as a loop goes through it: each digit from its window and the carry from below. The digits are those of the recoder's string. Over the width. Assumes nothing.
 use mathlib.Core.Path.{_≡_, refl, sym, ap, _∙_}
-use mathlib.Core.Bool.{Bool, true, false, cond}
 use mathlib.Core.List.{List}
 use Prim.Native.Nat.{ℕ, zero, suc, _+_, _-_, _*_, _/_, _%_, _^_, _≤_, _<_}
 use native.Mathlib.Nat.{div-add-mod, div-one, mod-lt, mod-eq-of-lt, mul-add, mul-suc, mul-zero, pow-zero, pow-suc, zero-add, add-zero}
 use native.Mathlib.Decide.{decLt}
 use native.Mathlib.Omega.{arith}
-use lib.Dec.{ltb}
 use lib.ListN.{length, replicate, set, length-set, length-replicate}
 use lib.Seq.{ext-getD, getD-set-same, getD-set-other}
-use lib.Pow.{pow-pos, pow-mono, shr-shr}
+use lib.Pow.{pow-pos, shr-shr}
 use lib.IntN.{ℤ, pos}
 use Rattle.numbers.specs.Centred.{centred, carried}
-use Rattle.numbers.proofs.Centred.{centred-is}
+use Rattle.numbers.proofs.Centred.{centred-is, carried-bit}
 use Rattle.numbers.proofs.Balance.{up, dn, same}
 use Rattle.numbers.proofs.Rounding.{twice, cancel}
 use Rattle.numbers.proofs.Filled.{Filled, filled-more}
-use Rattle.digits.specs.Centre.{Centres}
 use Rattle.rules.specs.Digits.{digitAt}
 use Rattle.rules.proofs.ZeroDigit.{replicate-zero}
 use Rattle.rules.proofs.RecoderR.{radixDigit, radixNext, radixOf, radix-step, fits-above, radixOf-length}
@@ -33,14 +30,6 @@ seen w x i = x / 2 ^ (w * i) % 2 ^ w + carryInto w x i
 -- what is left of x for the digits from i up
 abbrev pub left : ℕ → ℕ → ℕ → ℕ
 left w x i = x / 2 ^ (w * i) + carryInto w x i
-
-carried-bit : (h r : ℕ) → carried h r ≤ 1
-unfolding carried
-carried-bit h r = go (ltb r h)
-  where
-    go : (b : Bool) → cond b 0 1 ≤ 1
-    go true = omega arith
-    go false = omega arith
 
 pub carry-bit : (w x i : ℕ) → carryInto w x i ≤ 1
 unfolding carryInto
@@ -154,10 +143,3 @@ module _ (w x : ℕ) (w⁺ : 0 < w) where
         go k (yes a) b = getD-set-other ds m k _ (pos 0) (λ p. omega arith) ∙ r .digits k a ∙ sym (rw (left-none, zero-add) at (string-before (63 - m) m 0 k a))
         go k (no a) (yes b) = getD-set-other ds m k _ (pos 0) (λ p. omega arith) ∙ r .zeros k (omega arith) ∙ sym (string-past (63 - m) m x k b)
         go k (no a) (no b) = let p : k ≡ m = omega arith in rw p (getD-set-same ds m _ (pos 0) (omega (arith, r .long)) ∙ sym (rw (left-none, zero-add) at (string-last (63 - m) m 0)))
-
--- ---- what `centre` gives of a window and a carry
-module _ (w a c : ℕ) (w⁺ : 0 < w) (narrow : w ≤ 8) (bit : c ≤ 1) where
-  pub centred-window : {d : ℤ} {c′ : ℕ} → Centres (a % 2 ^ w + c) (2 ^ (w - 1)) d c′ → (d ≡ centred (2 ^ (w - 1)) (a % 2 ^ w + c)) × (c′ ≡ carried (2 ^ (w - 1)) (a % 2 ^ w + c))
-  centred-window h =
-      let s : w - 1 ≤ 7 = omega arith in
-      h .inside (pow-mono s) (omega (arith, twice w w⁺, mod-lt a {m = 2 ^ w} (pow-pos w)))

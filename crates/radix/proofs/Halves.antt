@@ -4,10 +4,15 @@ use mathlib.Core.List.{List}
 use Prim.Native.Nat.{ℕ, _+_, _*_, _/_, _%_, _^_, _≤_, _<_}
 use native.Mathlib.Omega.{arith}
 use native.Mathlib.Nat.{mod-lt}
+use lib.Dec.{lit<, lit≤}
 use lib.ListN.{getD}
 use lib.Pow.{pow-pos}
+use mir.Syntax.{w8}
+use mir.Val.{SFits}
+use Rattle.numbers.specs.Centred.{centred}
 use Rattle.numbers.proofs.Positional.{Below}
 use Rattle.numbers.proofs.Windows.{inside, pow-pow}
+use Rattle.digits.proofs.Narrowed.{centred-fits}
 use Rattle.rules.specs.Integer.{integer}
 use Rattle.rules.proofs.Table.{FromTo}
 use Rattle.radix.proofs.Carries.{carryInto, seen, carry-bit}
@@ -15,6 +20,10 @@ use Rattle.radix.proofs.Carries.{carryInto, seen, carry-bit}
 -- a half of a byte fits its four bits
 pub implies-halves : (x : ℕ) → x < 256 → (x % 16 ≤ 15) × (x / 16 ≤ 15)
 implies-halves x h = (omega arith, omega arith)
+
+-- .. and with a carry its digit fits a signed byte
+pub half-fits : (r : ℕ) → r ≤ 16 → SFits w8 (centred 8 r)
+half-fits r h = centred-fits w8 8 r (lit< tt) (lit≤ tt) h
 
 module _ (bytes : List ℕ) (below : Below 256 bytes) where
   -- window k is the lower half of its byte where k is even, and the upper half where it is odd

@@ -1,5 +1,5 @@
 pub mod Carries
-pub mod Rows
-pub mod Front
-pub mod Promised
 pub mod Halves
+pub mod Due
+pub mod Made
+pub mod Implied

@@ -1,3 +1,2 @@
 // Form R: scalars as digits in radix 2^w.
 pub mod recode;
-pub mod shape;

@@ -1,9 +1,9 @@
 // The recoders of form R.
-use crate::shape::shape;
 use digits::centre::Centred;
 use digits::centre::centre;
 use rules::Verdict;
 use scalar::Scalar;
+use shape::shape;
 use window::window;
 ghost use mathlib.Core.Path.{_≡_};
 ghost use Prim.Native.Nat.{_+_, _-_, _/_, _%_, _^_, _<_, _≤_};
@@ -13,8 +13,7 @@ ghost use Rattle.numbers.specs.Centred.{centred, carried};
 ghost use Rattle.rules.specs.Integer.{integer};
 ghost use Rattle.rules.specs.Widths.{row};
 ghost use Rattle.rules.specs.Forms.{cardR};
-ghost use Rattle.rules.specs.Promises.{Recoded};
-ghost use Rattle.radix.specs.RadixForm.{RecodesR};
+ghost use Rattle.rules.specs.Promises.{Recoded, Recodes};
 
 // The digits and their number; R counts no additions.
 pub struct Radix {
@@ -58,12 +57,14 @@ fn two_digits(byte: u8, carry: u32) -> Pair
         × (r .carry ≡ carried 8 (byte / 16 + carried 8 (byte % 16 + carry)))
         × (r .carry ≤ 1) ⌝ }
 {
-    let low = centre((byte % 16) as u32 + carry, 8);
-    let high = centre((byte / 16) as u32 + low.carry, 8);
+    let first = centre((byte % 16) as u32 + carry, 8);
+    let second = centre((byte / 16) as u32 + first.carry, 8);
+    let low = first.digit as i8;
+    let high = second.digit as i8;
     Pair {
-        low: low.digit,
-        high: high.digit,
-        carry: high.carry,
+        low,
+        high,
+        carry: second.carry,
     }
 }
 
@@ -84,7 +85,7 @@ fn nibbles(bytes: [u8; 32]) -> [i8; 64]
     }
     let top = bytes[31];
     let below = centre((top % 16) as u32 + carry, 8);
-    let low = below.digit;
+    let low = below.digit as i8;
     digits[62] = low;
     digits[63] = ((top / 16) as u32 + below.carry) as i8;
     digits
@@ -92,7 +93,7 @@ fn nibbles(bytes: [u8; 32]) -> [i8; 64]
 
 // A byte 31 above 127 is refused.
 pub fn as_radix_16(s: Scalar) -> Radix
-    ensures { λ r. ⌜ RecodesR (s .bytes) 4 (r .verdict) (r .digits) (r .count) (r .additions) ⌝ }
+    ensures { λ r. ⌜ Recodes (cardR 4) (s .bytes) (r .verdict) (r .digits) (r .count) (r .additions) ⌝ }
 {
     let bytes = s.bytes;
     if 127 < bytes[31] {
@@ -108,7 +109,7 @@ fn digit_at(bytes: &[u8], at: usize, w: usize, carry: u32) -> Centred
         (r .digit ≡ centred (2 ^ (w - 1)) (integer (now (bytes .entry)) / 2 ^ at % 2 ^ w + carry))
         × (r .carry ≡ carried (2 ^ (w - 1)) (integer (now (bytes .entry)) / 2 ^ at % 2 ^ w + carry)) ⌝ }
 {
-    centre(window(bytes, at, w as u32) + carry, 1 << (w - 1))
+    centre(window(bytes, at, w) + carry, 1 << (w - 1))
 }
 
 // The digits of radix 2^w, n of them; the last is its window and the carry.
@@ -122,17 +123,17 @@ fn windows(bytes: [u8; 32], w: usize, n: usize) -> [i8; 64]
     for i in 0..last {
         let c = digit_at(&bytes, w * i, w, carry);
         carry = c.carry;
-        let d = c.digit;
+        let d = c.digit as i8;
         digits[i] = d;
     }
-    let top = window(&bytes, w * last, w as u32) + carry;
+    let top = window(&bytes, w * last, w) + carry;
     digits[last] = top as i8;
     digits
 }
 
 // A width other than 4 to 8 is refused; width 4 is radix 16.
 pub fn as_radix_2w(s: Scalar, w: usize) -> Radix
-    ensures { λ r. ⌜ RecodesR (s .bytes) w (r .verdict) (r .digits) (r .count) (r .additions) ⌝ }
+    ensures { λ r. ⌜ Recodes (cardR w) (s .bytes) (r .verdict) (r .digits) (r .count) (r .additions) ⌝ }
 {
     if w < 4 {
         return refused(Verdict::WrongWidth);

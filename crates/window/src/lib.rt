@@ -31,7 +31,7 @@ fn pair_at(bytes: &[u8], i: usize) -> u32
 }
 
 // The w bits from place `at` up, from two neighbouring bytes. More than 8 bits are not read: they give 0.
-pub fn window(bytes: &[u8], at: usize, w: u32) -> u32
+pub fn window(bytes: &[u8], at: usize, w: usize) -> u32
     ensures { λ r. ⌜ Windowed (now (bytes .entry)) at w r ⌝ }
 {
     if 8 < w {

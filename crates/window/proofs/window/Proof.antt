@@ -6,21 +6,6 @@ use Rattle.window.proofs.WindowLaws.{from-two}
 use Rattle.window.proofs.window.Statement.{statement}
 use Rattle.window.proofs.window.Tie as tie
 
-returns : tie.Need-returns
-returns c = search needs
-
-pair-at-requires : tie.Need-pair-at-requires
-pair-at-requires c κs = search needs
-
-cast-result : tie.Need-cast-result
-cast-result c = search needs
-
-shr-result : tie.Need-shr-result
-shr-result c = search needs
-
-shl-result : tie.Need-shl-result
-shl-result c = search needs
-
 rem-result : tie.Need-rem-result
 rem-result c = one-shl-pos 32 (c .before .before .before .args .w) (omega arith)
 
@@ -31,4 +16,7 @@ returns-2 c =
     (from-two (a .bytes .now) (a .at) (a .w) (λ k. c .before .before .shared-slice-known .given k .fits) (omega arith))
 
 pub window-spec : {M : Type 1} → statement M
-window-spec = tie.close (tie.spec returns pair-at-requires cast-result shr-result shl-result rem-result returns-2)
+window-spec =
+    tie.close
+    (tie.spec (λ c. search needs) (λ c κs. search needs) (λ c. search needs) (λ c. search needs) (λ c. search needs)
+    (λ c. search needs) rem-result returns-2)

@@ -3,12 +3,13 @@ use Prim.Native.Nat.{_-_, _≤_}
 use mathlib.Core.Path.{_≡_, refl}
 use native.Mathlib.Omega.{arith}
 use borrow.Author.Needs.{needs}
+use lib.Dec.{lit<}
 use mir.Syntax.{w8}
 use mir.Val.{toZ, ofZ}
 use Rattle.rules.specs.Integer.{integer}
 use Rattle.rules.specs.Digits.{additions}
-use Rattle.naf.proofs.Places.{Walked, walk-starts, walk-skips, walk-takes, walk-ends}
-use Rattle.naf.proofs.Replies.{walked-string}
+use Rattle.naf.proofs.Places.{Walked, walk-starts, walk-skips, walk-takes}
+use Rattle.naf.proofs.Made.{walked-string}
 use Rattle.naf.proofs.recode.recode.Statement.{statement}
 use Rattle.naf.proofs.recode.recode.Tie as tie
 
@@ -24,21 +25,6 @@ loop-holds c = (search needs, search needs, walk-starts _ 256 _)
 step-requires : tie.Need-step-requires Inv-loop μ-loop
 step-requires c κs = (c .before .before .before .pre, c .before .loop .inv .2 .bit)
 
-array-set-from-digits : tie.Need-array-set-from-digits Inv-loop μ-loop
-array-set-from-digits c = search needs
-
-add-count : tie.Need-add-count Inv-loop μ-loop
-add-count c = search needs
-
-add-additions : tie.Need-add-additions Inv-loop μ-loop
-add-additions c = search needs
-
-add-at : tie.Need-add-at Inv-loop μ-loop
-add-at c = search needs
-
-loop-less : tie.Need-loop-less Inv-loop μ-loop
-loop-less c = search needs
-
 loop-again : tie.Need-loop-again Inv-loop μ-loop
 loop-again c =
     let l = c .before .before .before .before in
@@ -48,12 +34,6 @@ loop-again c =
       search needs,
       rw back (walk-takes (l .before .before .pre .least) (omega arith) (l .loop .inv .2) _ refl (s .ensures) (c .before .if1 .taken)),
     )
-
-add-at-2 : tie.Need-add-at-2 Inv-loop μ-loop
-add-at-2 c = search needs
-
-loop-less-2 : tie.Need-loop-less-2 Inv-loop μ-loop
-loop-less-2 c = search needs
 
 loop-again-2 : tie.Need-loop-again-2 Inv-loop μ-loop
 loop-again-2 c =
@@ -68,23 +48,10 @@ unfolding additions
 returns c =
     let p = c .before .loop .inv .2 in
     let least = c .before .before .before .pre .least in
-    ((refl, p .counts, p .adds), walked-string _ _ _ least (walk-ends least p (omega arith)))
+    ((refl, p .counts, p .adds), walked-string 8 least (lit< tt) p (omega arith))
 
 pub recode-spec : {M : Type 1} → statement M
 recode-spec =
     tie.close
-    (tie.spec
-    Inv-loop
-    μ-loop
-    loop-holds
-    step-requires
-    array-set-from-digits
-    add-count
-    add-additions
-    add-at
-    loop-less
-    loop-again
-    add-at-2
-    loop-less-2
-    loop-again-2
-    returns)
+    (tie.spec Inv-loop μ-loop loop-holds step-requires (λ c. search needs) (λ c. search needs) (λ c. search needs)
+    (λ c. search needs) (λ c. search needs) loop-again (λ c. search needs) (λ c. search needs) loop-again-2 returns)

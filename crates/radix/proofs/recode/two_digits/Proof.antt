@@ -1,48 +1,30 @@
--- `radix::recode::two_digits` meets its contract: each half of a byte with a carry is at most 16, which `centre` takes. Assumes nothing.
-use mathlib.Core.Path.{_≡_, _∙_}
+-- `radix::recode::two_digits` meets its contract: each half of a byte with a carry is at most 16, so that its digit fits. Assumes nothing.
 use native.Mathlib.Omega.{arith}
 use borrow.Author.Needs.{needs}
 use mir.Syntax.{w8}
-use mir.Val.{toZ, ofZ}
+use Rattle.digits.proofs.Narrowed.{narrow-fits, narrow-is}
+use Rattle.radix.proofs.Halves.{half-fits}
 use Rattle.radix.proofs.recode.two_digits.Statement.{statement}
 use Rattle.radix.proofs.recode.two_digits.Tie as tie
 
-cast-centre : tie.Need-cast-centre
-cast-centre c = search needs
+cast-low : tie.Need-cast-low
+cast-low c = narrow-fits w8 (search needs) (c .before .before .before .before .centre .ensures .0) (half-fits _ (omega arith))
 
-add-centre : tie.Need-add-centre
-add-centre c = search needs
-
-centre-requires : tie.Need-centre-requires
-centre-requires c κs = search needs
-
-cast-centre-2 : tie.Need-cast-centre-2
-cast-centre-2 c = search needs
-
-add-centre-2 : tie.Need-add-centre-2
-add-centre-2 c = search needs
-
-centre-requires-2 : tie.Need-centre-requires-2
-centre-requires-2 c κs = search needs
+cast-high : tie.Need-cast-high
+cast-high c = narrow-fits w8 (search needs) (c .before .before .before .before .centre2 .ensures .0) (half-fits _ (omega arith))
 
 returns : tie.Need-returns
 returns c =
-    let low = c .before .before .before .before .centre in
-    let high = c .before .before .centre2 in
-    let l = low .ensures .inside (omega arith) (omega arith) in
-    let h = high .ensures .inside (omega arith) (omega arith) in
-    let back : toZ w8 (ofZ w8 (low .result .digit)) ≡ low .result .digit = search needs in
-    let back′ : toZ w8 (ofZ w8 (high .result .digit)) ≡ high .result .digit = search needs in
-    (back ∙ l .0, back′ ∙ rw (l .1) at (h .0), rw (l .1) at (h .1), high .ensures .bit)
+    let first = c .before .before .before .before .before .before .centre .ensures in
+    let second = c .before .before .before .before .centre2 .ensures in (
+      narrow-is w8 (search needs) (first .0) (half-fits _ (omega arith)),
+      rw (first .1) at (narrow-is w8 (search needs) (second .0) (half-fits _ (omega arith))),
+      rw (first .1) at (second .1),
+      second .2,
+    )
 
 pub two-digits-spec : {M : Type 1} → statement M
 two-digits-spec =
     tie.close
-    (tie.spec
-    cast-centre
-    add-centre
-    centre-requires
-    cast-centre-2
-    add-centre-2
-    centre-requires-2
-    returns)
+    (tie.spec (λ c. search needs) (λ c. search needs) (λ c κs. search needs) (λ c. search needs) (λ c. search needs)
+    (λ c κs. search needs) cast-low cast-high returns)

@@ -1,2 +1,0 @@
-pub mod Centre
-pub mod Half
