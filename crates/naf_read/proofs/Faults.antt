@@ -11,7 +11,7 @@ use mir.Val.{SFits, toZ, ofZ}
 use Rattle.rules.specs.declared.Verdict.the-variants.{Done, BrokenDigit, Crowded}
 use Rattle.rules.specs.Forms.{digitN, cardN}
 use Rattle.rules.specs.Verdicts.{_orElse_}
-use Rattle.rules.proofs.Scan.{fault, heldNext}
+use Rattle.rules.specs.inner.Scan.{fault, heldNext}
 use Rattle.digits.proofs.Signed.{back8}
 
 -- as `magnitude` promises it of its argument

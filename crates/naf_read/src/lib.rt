@@ -1,10 +1,9 @@
 // The acceptance test of N's strings, and the reader.
-use digits::half::half_of;
 use digits::magnitude::magnitude;
 use rules::Verdict;
-use sum::Read;
+use scalar::reply::Reply;
+use scalar::reply::refused;
 use sum::read_sum;
-use sum::refused;
 ghost use mathlib.Core.Path.{_≡_};
 ghost use mathlib.Core.Bool.{_&&_};
 ghost use Prim.Native.Nat.{ℕ, _-_, _%_, _^_, _≤_};
@@ -13,7 +12,7 @@ ghost use lib.ListN.{length};
 ghost use Rattle.rules.specs.Forms.{cardN};
 ghost use Rattle.rules.specs.Test.{firstFault, verdict};
 ghost use Rattle.rules.specs.Promises.{Reads};
-ghost use Rattle.rules.proofs.Scan.{fault, heldNext};
+ghost use Rattle.rules.specs.inner.Scan.{fault, heldNext};
 
 // The own rule of a digit that is not zero, by its absolute value.
 fn odd_below(m: u32, half: u32) -> bool
@@ -58,7 +57,7 @@ fn first_fault(digits: &[i8], w: usize) -> Verdict
     requires { ⌜ (2 ≤ w) × (w ≤ 8) ⌝ }
     ensures { λ r. ⌜ r ≡ firstFault (cardN w) (now (digits .entry)) 0 (length (now (digits .entry))) ⌝ }
 {
-    let half = half_of(w);
+    let half: u32 = 1 << (w - 1);
     let mut i: usize = 0;
     let mut held: usize = 0;
     while i < digits.len() {
@@ -74,7 +73,7 @@ fn first_fault(digits: &[i8], w: usize) -> Verdict
 }
 
 // The bytes of a string that passes the test; refused, zero bytes.
-pub fn read(digits: &[i8], w: usize) -> Read
+pub fn read(digits: &[i8], w: usize) -> Reply
     ensures { λ r. ⌜ Reads (cardN w) (now (digits .entry)) (r .verdict) (r .scalar .bytes) ⌝ }
 {
     if digits.len() != 256 {

@@ -1,4 +1,4 @@
--- Form R read back: what is wrong with a digit, and the reply of the sum. Over the width. Assumes nothing.
+-- R's reader: what is wrong with a digit, a wrong width, the sum's reply, and the laws over a form, for R. Assumes nothing.
 use mathlib.Core.Path.{_≡_, refl, sym, _∙_, ap}
 use mathlib.Core.Logic.{_≢_}
 use mathlib.Core.Bool.{Bool, true, false, not, cond, or-true}
@@ -15,25 +15,24 @@ use Rattle.rules.specs.declared.Verdict.the-variants.{Done, WrongWidth, BrokenD
 use Rattle.rules.specs.Integer.{Bytes}
 use Rattle.rules.specs.Digits.{isZero, weighted}
 use Rattle.rules.specs.Widths.{widthR, row}
-use Rattle.rules.specs.Forms.{formR, cardR, digitR}
+use Rattle.rules.specs.Forms.{cardR, digitR}
 use Rattle.rules.specs.Verdicts.{number, unless, _orElse_}
 use Rattle.rules.specs.Test.{firstFault, verdict}
 use Rattle.rules.specs.Refusals.{Offered}
-use Rattle.rules.specs.Promises.{Reads}
+use Rattle.rules.specs.Promises.{Recodes, Reads}
 use Rattle.rules.proofs.Verdicts.{number-zero, done-orElse, refused-orElse, unless-held, unless-failed, unless-done}
-use Rattle.rules.proofs.Scan.{fault, heldNext}
+use Rattle.rules.specs.inner.Scan.{fault, heldNext}
 use Rattle.rules.proofs.FirstFault.{first-keeps}
-use Rattle.rules.proofs.Refusals.{verdict-done, refused-3}
-use Rattle.rules.proofs.Reading.{reads-summed, round-trip}
-use Rattle.rules.proofs.Table.{row-fits, width-between}
+use Rattle.rules.proofs.Refusals.{refused-3}
+use Rattle.rules.proofs.Reading.{reads-summed, reads-determined}
+use Rattle.rules.proofs.Promises.{test-passes, round-trip, read-back}
+use Rattle.rules.proofs.Exactly.{lawful-card-r}
+use Rattle.rules.proofs.Table.{row-fits, width-between, at-widths}
 use Rattle.sum.specs.SumRead.{SumRead, summable, endOf}
-use Rattle.radix.specs.RadixForm.{dueR, RecodesR}
-use Rattle.radix.proofs.Rows.{at-widths}
-use Rattle.radix.proofs.Front.{front-sum, past-zero}
-use Rattle.radix.proofs.Promised.{due-range, radix-passes}
+use Rattle.shape.proofs.Front.{front-sum, past-zero}
 
 -- without a gap a digit is at fault for its own rule only
-pub fault-r : (w i : ℕ) (d : ℤ) → fault (formR w) i 0 d ≡ unless (digitR w (row w .digits) (row w .top) i d) (BrokenDigit i)
+pub fault-r : (w i : ℕ) (d : ℤ) → fault (cardR w) i 0 d ≡ unless (digitR w (row w .digits) (row w .top) i d) (BrokenDigit i)
 unfolding fault
 fault-r w i d = rw (or-true (isZero d)) (go (digitR w (row w .digits) (row w .top) i d))
   where
@@ -42,11 +41,11 @@ fault-r w i d = rw (or-true (isZero d)) (go (digitR w (row w .digits) (row w .to
     go false = refused-orElse (BrokenDigit i) Done (λ z. omega arith)
 
 -- a digit tested as r: what is wrong with it
-pub tested-r : (w n top : ℕ) (i : ℕ) (d : ℤ) (r : Bool) → n ≡ row w .digits → top ≡ row w .top → r ≡ digitR w n top i d → unless r (BrokenDigit i) ≡ fault (formR w) i 0 d
+pub tested-r : (w n top : ℕ) (i : ℕ) (d : ℤ) (r : Bool) → n ≡ row w .digits → top ≡ row w .top → r ≡ digitR w n top i d → unless r (BrokenDigit i) ≡ fault (cardR w) i 0 d
 tested-r w n top i d r en et er = sym (fault-r w i d ∙ rw (← en, ← et, ← er))
 
 -- nothing is held after it
-pub held-r : (w : ℕ) (d : ℤ) → 0 ≡ heldNext (formR w .gap) 0 d
+pub held-r : (w : ℕ) (d : ℤ) → 0 ≡ heldNext (cardR w .gap) 0 d
 held-r w d = go (isZero d)
   where
     go : (b : Bool) → _≡_ {A = ℕ} 0 (cond b 0 0)
@@ -84,14 +83,25 @@ sum-reads ds w answer bytes o f s =
     let b = width-between 4 8 w t in
     let n : length (take (row w .digits) ds) ≡ row w .digits = length-take-le (row w .digits) ds (omega (arith, o .long, row-fits w t .most)) in
     let fits : T (summable w (take (row w .digits) ds)) = rw (le-leb 1 w (omega (arith, b .low)), le-leb w 8 (b .high), n) (few-bits w t) in
-    let e : weighted (2 ^ w) (take (row w .digits) ds) ≡ weighted (2 ^ w) ds = front-sum (2 ^ w) (row w .digits) ds (past-zero w ds (first-keeps (cardR w) ds f)) in
+    let e : weighted (2 ^ w) (take (row w .digits) ds) ≡ weighted (2 ^ w) ds = front-sum (2 ^ w) (row w .digits) ds (past-zero 64 w ds (first-keeps (cardR w) ds f)) in
     reads-summed (cardR w) ds answer bytes o f (s .ranged fits ∙ rw (row-end w t, e)) (λ d. sym e ∙ s .sums d) (s .zeros)
 
--- ---- a recoder's digits pass the test and read back
+-- ---- the laws over a form, for R
 
-module _ {bytes : List ℕ} {w : ℕ} {answer : Verdict} {digits : List ℤ} {counted added : ℕ} (b : Bytes 32 bytes) (r : RecodesR bytes w answer digits counted added) (d : dueR bytes w ≡ Done) where
-  pub test-passes-r : verdict (cardR w) digits ≡ Done
-  test-passes-r = verdict-done (cardR w) digits .1 (radix-passes bytes w r d b)
+module _ (w : ℕ) where
+  module _ {bytes : List ℕ} {answer : Verdict} {digits : List ℤ} {counted added : ℕ} (b : Bytes 32 bytes) (p : Recodes (cardR w) bytes answer digits counted added) (d : answer ≡ Done) where
+    -- a recoder's digits pass the test
+    pub test-passes-r : verdict (cardR w) digits ≡ Done
+    test-passes-r = test-passes (cardR w) (lawful-card-r w) bytes b p d
 
-  pub round-trip-r : {answer′ : Verdict} {bytes′ : List ℕ} → Bytes 32 bytes′ → Reads (cardR w) digits answer′ bytes′ → (answer′ ≡ Done) × (bytes′ ≡ bytes)
-  round-trip-r b′ r′ = round-trip (cardR w) (r .recodes) d (radix-passes bytes w r d b .allowed) (due-range bytes w b d) b refl b′ r′
+    -- and read back they give the bytes that they came from
+    pub round-trip-r : {answer′ : Verdict} {bytes′ : List ℕ} → Bytes 32 bytes′ → Reads (cardR w) digits answer′ bytes′ → (answer′ ≡ Done) × (bytes′ ≡ bytes)
+    round-trip-r = round-trip (cardR w) (lawful-card-r w) bytes b p d
+
+  -- bytes read, then recoded, give the digits
+  pub read-back-r : {ds es : List ℤ} {bytes : List ℕ} {answer : Verdict} {counted added : ℕ} → Bytes 32 bytes → Reads (cardR w) ds Done bytes → Recodes (cardR w) bytes answer es counted added → (answer ≡ Done) × (es ≡ ds)
+  read-back-r = read-back (cardR w) (lawful-card-r w)
+
+  -- a reader's promise fixes its reply
+  pub read-determined-r : (ds : List ℤ) {answer answer′ : Verdict} {bytes bytes′ : List ℕ} → Bytes 32 bytes → Bytes 32 bytes′ → Reads (cardR w) ds answer bytes → Reads (cardR w) ds answer′ bytes′ → (answer ≡ answer′) × (bytes ≡ bytes′)
+  read-determined-r ds = reads-determined (cardR w) ds

@@ -1,11 +1,10 @@
 // Form R read back: the test of a digit string, and its 32 bytes.
-use digits::half::half_of;
 use digits::magnitude::offset;
-use radix::shape::shape;
 use rules::Verdict;
-use sum::Read;
+use scalar::reply::Reply;
+use scalar::reply::refused;
+use shape::shape;
 use sum::read_sum;
-use sum::refused;
 ghost use mathlib.Core.Path.{_≡_};
 ghost use mathlib.Core.Bool.{_&&_};
 ghost use Prim.Native.Nat.{_-_, _^_, _<_, _≤_};
@@ -46,7 +45,7 @@ fn first_fault(digits: &[i8], w: usize, n: usize, top: u32) -> Verdict
     requires { ⌜ T (widthR w) × (n ≡ row w .digits) × (top ≡ row w .top) × (length (now digits) ≡ 64) ⌝ }
     ensures { λ r. ⌜ r ≡ firstFault (cardR w) (now (digits .entry)) 0 (length (now (digits .entry))) ⌝ }
 {
-    let half = half_of(w);
+    let half: u32 = 1 << (w - 1);
     let mut i: usize = 0;
     while i < digits.len() {
         let d = digits[i];
@@ -59,7 +58,7 @@ fn first_fault(digits: &[i8], w: usize, n: usize, top: u32) -> Verdict
 }
 
 // The bytes of a string that passes the test; refused, zero bytes.
-pub fn read(digits: &[i8], w: usize) -> Read
+pub fn read(digits: &[i8], w: usize) -> Reply
     ensures { λ r. ⌜ Reads (cardR w) (now (digits .entry)) (r .verdict) (r .scalar .bytes) ⌝ }
 {
     if digits.len() != 64 {

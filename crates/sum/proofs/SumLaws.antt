@@ -5,7 +5,7 @@ use mathlib.Core.Logic.{_↔_, _≢_, by-cases}
 use mathlib.Core.List.{List, [], _∷_}
 use Prim.Native.Nat.{ℕ, suc, _+_, _-_, _*_, _/_, _%_, _^_, _≤_, _<_}
 use native.Mathlib.Nat.{le-refl, add-zero, mul-left-comm, le-of-mul-le-mul-left, lt-of-lt-of-le, mul-zero, mul-suc, mul-comm, mul-le-mul-left, mul-le-mul-right, pow-suc, div-add-mod, add-mul}
-use native.Mathlib.Decide.{decLt, ℕ-discrete}
+use native.Mathlib.Decide.{decLt}
 use native.Mathlib.Numerals.{add-one}
 use native.Mathlib.Omega.{arith}
 use lib.ListN.{length, replicate, getD, set, take, List·getD-eq-default}
@@ -25,11 +25,10 @@ use Rattle.rules.specs.Verdicts.{number}
 use Rattle.rules.specs.Integer.{integer, Bytes}
 use Rattle.rules.specs.Digits.{digitAt, weighted}
 use Rattle.rules.specs.Test.{rangeFault}
-use Rattle.rules.proofs.Verdicts.{number-zero}
-use Rattle.rules.proofs.Integer.{integer-determines}
+use Rattle.rules.proofs.Verdicts.{done-or-refused}
+use Rattle.rules.proofs.Integer.{integer-determines, byte-31}
 use Rattle.rules.proofs.Sum.{nil-sum, sum-up}
-use Rattle.scalar.proofs.TopByte.{byte-31}
-use Rattle.sum.specs.Adds.{Adds, Totals, SumAnswered, Judged}
+use Rattle.sum.specs.inner.Adds.{Adds, Totals, SumAnswered, Judged}
 use Rattle.sum.specs.SumRead.{summable, endOf, SumRead}
 
 -- ---- one digit more, as the machine works it out in 32 bits
@@ -221,13 +220,14 @@ module _ {given : List ℕ} {above half : ℕ} {short : Bool} {answer : Verdict}
       let over : endOf short ≤ integer given = by-cases (decLt (integer given) (endOf short)) (λ l. absurd (omega (arith, top-fits short b .1 l))) (λ n. omega arith) in
       refuses (ap (rangeFault (endOf short)) (exact z t level) ∙ outside-end (endOf short) (integer given) over) (lit< tt) r
 
-pub judged-done : {given : List ℕ} {above half : ℕ} {short : Bool} → Bytes 32 given → above ≡ half → getD given 31 0 ≤ cond short 127 255 → Judged given above half short Done given
-judged-done {given} {short} b level h z t =
-    record {
-      ranged = sym (ap (rangeFault (endOf short)) (exact z t level) ∙ inside-end (endOf short) (integer given) (top-fits short b .0 h));
-      sums = λ _. exact z t level;
-      zeros = λ f. absurd (f refl);
-    }
+  -- and the bytes themselves, where nothing is wrong
+  pub judged-done : above ≡ half → getD given 31 0 ≤ cond short 127 255 → (answer ≡ Done) × (bytes ≡ given) → Judged given above half short answer bytes
+  judged-done level h r z t =
+      record {
+        ranged = r .0 ∙ sym (ap (rangeFault (endOf short)) (exact z t level) ∙ inside-end (endOf short) (integer given) (top-fits short b .0 h));
+        sums = λ _. rw (r .1) (exact z t level);
+        zeros = λ f. absurd (f (r .0));
+      }
 
 module _ {ds : List ℤ} {w : ℕ} {short : Bool} {answer : Verdict} {bytes : List ℕ} where
   pub reads-wrong : (1 ≤ w → w ≤ 8 → w * length ds ≤ 264 → ⊥) → Refused WrongWidth answer bytes → SumRead ds w short answer bytes
@@ -252,7 +252,7 @@ module _ {ds : List ℤ} {w : ℕ} {short : Bool} {answer : Verdict} {bytes : Li
 -- ---- the promise fixes the reply
 
 pub sum-read-determined : {ds : List ℤ} {w : ℕ} {short : Bool} {answer answer′ : Verdict} {bytes bytes′ : List ℕ} → Bytes 32 bytes → Bytes 32 bytes′ → SumRead ds w short answer bytes → SumRead ds w short answer′ bytes′ → (answer ≡ answer′) × (bytes ≡ bytes′)
-sum-read-determined {ds} {w} {short} {answer} {answer′} {bytes} {bytes′} b b′ r r′ = (same-answer, by-cases (ℕ-discrete (number answer) 0) (λ e. done (number-zero answer e)) (λ n. refused (λ d. n (ap number d))))
+sum-read-determined {ds} {w} {short} {answer} {answer′} {bytes} {bytes′} b b′ r r′ = (same-answer, done-or-refused answer done refused)
   where
     go : (t : Bool) → summable w ds ≡ t → answer ≡ answer′
     go true e = r .ranged (subst⁻¹ T e tt) ∙ sym (r′ .ranged (subst⁻¹ T e tt))

@@ -1,2 +1,2 @@
-pub mod Adds
 pub mod SumRead
+pub mod inner

@@ -2,19 +2,17 @@
 use digits::magnitude::offset;
 use rules::Verdict;
 use scalar::Scalar;
+use scalar::reply::Reply;
+use scalar::reply::done;
+use scalar::reply::refused;
 ghost use mathlib.Core.Path.{_≡_};
 ghost use mathlib.Core.Bool.{cond};
 ghost use Prim.Native.Nat.{_+_, _*_, _^_, _<_, _≤_};
-ghost use lib.ListN.{length, replicate};
+ghost use lib.ListN.{length};
 ghost use lib.IntN.{pos, _+ℤ_};
 ghost use Rattle.rules.specs.Digits.{digitAt, weighted};
-ghost use Rattle.sum.specs.Adds.{Gathers, Totals, Judged};
+ghost use Rattle.sum.specs.inner.Adds.{Gathers, Totals, Judged};
 ghost use Rattle.sum.specs.SumRead.{SumRead};
-
-pub struct Read {
-    pub verdict: Verdict,
-    pub scalar: Scalar,
-}
 
 // What is added up and not yet a byte, when `next` digits are in: `bits` bits, and above them a carry that counts from 128.
 struct Held {
@@ -93,16 +91,6 @@ fn add_up(digits: &[i8], w: usize) -> Total
     }
 }
 
-// A refusal has zero bytes.
-pub fn refused(verdict: Verdict) -> Read
-    ensures { λ r. ⌜ (r .verdict ≡ verdict) × (r .scalar .bytes ≡ replicate 32 0) ⌝ }
-{
-    Read {
-        verdict,
-        scalar: Scalar::ZERO,
-    }
-}
-
 // The largest byte 31 of the range.
 fn largest_top(short: bool) -> u8
     ensures { λ r. ⌜ r ≡ cond short 127 255 ⌝ }
@@ -111,7 +99,7 @@ fn largest_top(short: bool) -> u8
 }
 
 // A sum against the range.
-fn judge(sum: Total, short: bool) -> Read
+fn judge(sum: Total, short: bool) -> Reply
     ensures { λ r. ⌜ Judged (sum .bytes) (sum .above) (sum .half) short (r .verdict) (r .scalar .bytes) ⌝ }
 {
     if sum.above < sum.half {
@@ -124,15 +112,12 @@ fn judge(sum: Total, short: bool) -> Read
     if largest_top(short) < bytes[31] {
         return refused(Verdict::PastEnd);
     }
-    Read {
-        verdict: Verdict::Done,
-        scalar: Scalar { bytes },
-    }
+    done(Scalar { bytes })
 }
 
 // The sum of the digits at base 2^w, as bytes. The range ends at 2^255 where it is short, else at 2^256; a sum outside it, and a
 // string of other widths or of more than 264 bits, is refused with zero bytes.
-pub fn read_sum(digits: &[i8], w: usize, short: bool) -> Read
+pub fn read_sum(digits: &[i8], w: usize, short: bool) -> Reply
     ensures { λ r. ⌜ SumRead (now (digits .entry)) w short (r .verdict) (r .scalar .bytes) ⌝ }
 {
     if w < 1 {

@@ -5,14 +5,8 @@ use Rattle.naf_read.proofs.Faults.{magnitude-is, fine-zero, broken-own,
 use Rattle.naf_read.proofs.fault_of.Statement.{statement}
 use Rattle.naf_read.proofs.fault_of.Tie as tie
 
-magnitude-requires : tie.Need-magnitude-requires
-magnitude-requires c κs = search needs
-
 returns : tie.Need-returns
 returns c w h = fine-zero _ (magnitude-is (c .before .before .fits .d) (c .before .magnitude .ensures .0)) _ _ w (c .if1 .taken)
-
-odd-below-requires : tie.Need-odd-below-requires
-odd-below-requires c κs = search needs
 
 returns-2 : tie.Need-returns-2
 returns-2 c w h =
@@ -33,4 +27,4 @@ returns-4 c w h =
     fine-free _ (magnitude-is (m .before .fits .d) (m .magnitude .ensures .0)) _ _ w h (k .before .if1 .left) (k .odd-below .ensures) (not-false _ (c .before .if2 .left)) (c .if3 .left)
 
 pub fault-of-spec : {M : Type 1} → statement M
-fault-of-spec = tie.close (tie.spec magnitude-requires returns odd-below-requires returns-2 returns-3 returns-4)
+fault-of-spec = tie.close (tie.spec (λ c κs. search needs) returns (λ c κs. search needs) returns-2 returns-3 returns-4)

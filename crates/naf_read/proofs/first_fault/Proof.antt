@@ -7,9 +7,10 @@ use mir.Facts.{toZ-ofZ}
 use mir.Syntax.{w8}
 use mir.Val.{toZ, ofZ}
 use lib.ListN.{length, drop}
+use Rattle.numbers.proofs.Windows.{one-shl}
 use Rattle.rules.specs.Digits.{digitAt}
 use Rattle.rules.specs.Forms.{cardN}
-use Rattle.rules.proofs.Scan.{scan}
+use Rattle.rules.specs.inner.Scan.{scan}
 use Rattle.rules.proofs.FirstFault.{scan-is}
 use Rattle.rules.proofs.Walk.{Turn, walk-on, walk-off, walk-end}
 use Rattle.naf_read.proofs.first_fault.Statement.{statement}
@@ -21,49 +22,25 @@ Inv-loop digits w half i₀ held₀ i held = (i ≤ length digits) × (half ≡ 
 abbrev μ-loop : tie.MeasureT-loop
 μ-loop digits w half i₀ held₀ i held = length digits - i
 
-half-of-requires : tie.Need-half-of-requires Inv-loop μ-loop
-half-of-requires c κs = search needs
-
 loop-holds : tie.Need-loop-holds Inv-loop μ-loop
-loop-holds c = (search needs, c .half-of .ensures .inside (omega arith) (omega arith), refl)
-
-shared-slice-copy-out-d : tie.Need-shared-slice-copy-out-d Inv-loop μ-loop
-shared-slice-copy-out-d c = search needs
-
-fault-of-requires : tie.Need-fault-of-requires Inv-loop μ-loop
-fault-of-requires c κs = search needs
-
-number-requires : tie.Need-number-requires Inv-loop μ-loop
-number-requires c κs = search needs
+loop-holds c = (search needs, one-shl 32 (c .args .w - 1) (omega arith), refl)
 
 turn : (c : tie.After-fault-of Inv-loop μ-loop) →
     let at = c .before .before .before in
-    let a = at .before .before .args in
+    let a = at .before .args in
     Turn (cardN (a .w)) (at .loop .i) (at .loop .held) (a .digits .now) (toZ w8 (ofZ w8 (digitAt (a .digits .now) (at .loop .i)))) (c .fault-of .result)
 turn c =
     let at = c .before .before .before in
     record {
       inside = c .before .before .loop-test .taken;
       digit = toZ-ofZ (sfits-of (c .before .d .given));
-      wrong = c .fault-of .ensures (at .before .before .args .w) (at .loop .inv .1);
+      wrong = c .fault-of .ensures (at .before .args .w) (at .loop .inv .1);
     }
 
 returns : tie.Need-returns Inv-loop μ-loop
 returns c =
     let at = c .before .before .before .before .before in
-    walk-off (turn (c .before .before)) (λ z. c .if1 .taken (c .before .number .ensures ∙ z)) ∙ at .loop .inv .2 ∙ scan-is _ (at .before .before .args .digits .now)
-
-sub-next-held : tie.Need-sub-next-held Inv-loop μ-loop
-sub-next-held c = search needs
-
-next-held-requires : tie.Need-next-held-requires Inv-loop μ-loop
-next-held-requires c κs = search needs
-
-add-i : tie.Need-add-i Inv-loop μ-loop
-add-i c = search needs
-
-loop-less : tie.Need-loop-less Inv-loop μ-loop
-loop-less c = search needs
+    walk-off (turn (c .before .before)) (λ z. c .if1 .taken (c .before .number .ensures ∙ z)) ∙ at .loop .inv .2 ∙ scan-is _ (at .before .args .digits .now)
 
 loop-again : tie.Need-loop-again Inv-loop μ-loop
 loop-again c =
@@ -77,24 +54,12 @@ loop-again c =
 returns-2 : tie.Need-returns-2 Inv-loop μ-loop
 returns-2 c =
     let at = c .before in
-    let a = at .before .before .args in
+    let a = at .before .args in
     sym (walk-end (cardN (a .w)) (at .loop .i) (at .loop .held) (a .digits .now) (c .loop-test .left)) ∙ at .loop .inv .2 ∙ scan-is (cardN (a .w)) (a .digits .now)
 
 pub first-fault-spec : {M : Type 1} → statement M
 first-fault-spec =
     tie.close
-    (tie.spec
-    Inv-loop
-    μ-loop
-    half-of-requires
-    loop-holds
-    shared-slice-copy-out-d
-    fault-of-requires
-    number-requires
-    returns
-    sub-next-held
-    next-held-requires
-    add-i
-    loop-less
-    loop-again
-    returns-2)
+    (tie.spec Inv-loop μ-loop (λ c. search needs) (λ c. search needs) (λ c. search needs) loop-holds (λ c. search needs)
+    (λ c κs. search needs) (λ c κs. search needs) returns (λ c. search needs) (λ c κs. search needs)
+    (λ c. search needs) (λ c. search needs) loop-again returns-2)

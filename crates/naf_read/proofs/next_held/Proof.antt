@@ -3,13 +3,10 @@ use mathlib.Core.Path.{_≡_}
 use Prim.Native.Nat.{_-_}
 use native.Mathlib.Omega.{arith}
 use borrow.Author.Needs.{needs}
-use Rattle.rules.proofs.Scan.{heldNext}
+use Rattle.rules.specs.inner.Scan.{heldNext}
 use Rattle.naf_read.proofs.Faults.{magnitude-is, held-after, held-less}
 use Rattle.naf_read.proofs.next_held.Statement.{statement}
 use Rattle.naf_read.proofs.next_held.Tie as tie
-
-magnitude-requires : tie.Need-magnitude-requires
-magnitude-requires c κs = search needs
 
 -- held after a zero
 less : (c : tie.After-magnitude) → c .magnitude .result ≡ 0 → let a = c .before .args in a .held - 1 ≡ heldNext (a .gap) (a .held) (a .d)
@@ -24,11 +21,8 @@ returns c =
 returns-2 : tie.Need-returns-2
 returns-2 c = omega (arith, less (c .before .before) (c .before .if1 .left))
 
-sub-result : tie.Need-sub-result
-sub-result c = search needs
-
 returns-3 : tie.Need-returns-3
 returns-3 c = less (c .before .before) (c .before .if1 .left)
 
 pub next-held-spec : {M : Type 1} → statement M
-next-held-spec = tie.close (tie.spec magnitude-requires returns returns-2 sub-result returns-3)
+next-held-spec = tie.close (tie.spec (λ c κs. search needs) returns returns-2 (λ c. search needs) returns-3)

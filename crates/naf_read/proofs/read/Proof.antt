@@ -2,51 +2,26 @@
 use mathlib.Core.Path.{sym, _∙_}
 use native.Mathlib.Omega.{arith}
 use borrow.Author.Needs.{needs}
-use borrow.Author.Tests.{le-leb, lt-leb}
-use Rattle.rules.specs.declared.Verdict.the-variants.{WrongLength, WrongWidth}
+use Rattle.rules.specs.declared.Verdict.the-variants.{WrongLength}
 use Rattle.rules.specs.Forms.{cardN}
 use Rattle.rules.specs.Refusals.{Offered}
 use Rattle.rules.proofs.Verdicts.{number-zero}
-use Rattle.rules.proofs.Refusals.{refused-1, refused-3}
+use Rattle.rules.proofs.Refusals.{refused-1}
 use Rattle.rules.proofs.Reading.{reads-refused, reads-faulty}
-use Rattle.naf_read.proofs.ReadLaws.{offered-n, sum-reads}
+use Rattle.naf_read.proofs.ReadLaws.{offered-n, wrong-width-n, sum-reads}
 use Rattle.naf_read.proofs.read.Statement.{statement}
 use Rattle.naf_read.proofs.read.Tie as tie
-
-refused-requires : tie.Need-refused-requires
-refused-requires c κs = search needs
 
 returns : tie.Need-returns
 returns c =
     let a = c .before .before .args in
     reads-refused (cardN (a .w)) (a .digits .now) _ _ WrongLength (refused-1 (cardN (a .w)) (a .digits .now) .1 (λ e. omega arith)) (λ z. omega arith) (c .refused .ensures)
 
-refused-requires-2 : tie.Need-refused-requires-2
-refused-requires-2 c κs = search needs
-
 returns-2 : tie.Need-returns-2
-returns-2 c =
-    let a = c .before .before .before .args in
-    reads-refused (cardN (a .w)) (a .digits .now) _ _ WrongWidth
-    (refused-3 (cardN (a .w)) (a .digits .now) .1 (omega arith, rw (lt-leb 2 (a .w) (omega arith)) tt)) (λ z. omega arith) (c .refused2 .ensures)
-
-refused-requires-3 : tie.Need-refused-requires-3
-refused-requires-3 c κs = search needs
+returns-2 c = wrong-width-n _ _ _ _ (omega arith) (λ l h. omega arith) (c .refused2 .ensures)
 
 returns-3 : tie.Need-returns-3
-returns-3 c =
-    let a = c .before .before .before .before .args in
-    reads-refused (cardN (a .w)) (a .digits .now) _ _ WrongWidth
-    (refused-3 (cardN (a .w)) (a .digits .now) .1 (omega arith, rw (le-leb 2 (a .w) (omega arith), lt-leb (a .w) 8 (omega arith)) tt)) (λ z. omega arith) (c .refused3 .ensures)
-
-first-fault-requires : tie.Need-first-fault-requires
-first-fault-requires c κs = search needs
-
-number-requires : tie.Need-number-requires
-number-requires c κs = search needs
-
-refused-requires-4 : tie.Need-refused-requires-4
-refused-requires-4 c κs = search needs
+returns-3 c = wrong-width-n _ _ _ _ (omega arith) (λ l h. omega arith) (c .refused3 .ensures)
 
 offers : (c : tie.After-first-fault) → let a = c .before .before .before .before .args in Offered (cardN (a .w)) (a .digits .now)
 offers c = let a = c .before .before .before .before .args in offered-n (a .digits .now) (a .w) (omega arith) (omega arith) (omega arith)
@@ -55,9 +30,6 @@ returns-4 : tie.Need-returns-4
 returns-4 c =
     let k = c .before .before .before in
     reads-faulty _ _ _ _ (offers k) (k .first-fault .result) (k .first-fault .ensures) (λ z. c .before .if4 .taken (c .before .before .number .ensures ∙ z)) (c .refused4 .ensures)
-
-read-sum-requires : tie.Need-read-sum-requires
-read-sum-requires c κs = search needs
 
 returns-5 : tie.Need-returns-5
 returns-5 c =
@@ -68,16 +40,5 @@ returns-5 c =
 pub read-spec : {M : Type 1} → statement M
 read-spec =
     tie.close
-    (tie.spec
-    refused-requires
-    returns
-    refused-requires-2
-    returns-2
-    refused-requires-3
-    returns-3
-    first-fault-requires
-    number-requires
-    refused-requires-4
-    returns-4
-    read-sum-requires
-    returns-5)
+    (tie.spec (λ c κs. search needs) returns (λ c κs. search needs) returns-2 (λ c κs. search needs) returns-3
+    (λ c κs. search needs) (λ c κs. search needs) (λ c κs. search needs) returns-4 (λ c κs. search needs) returns-5)

@@ -7,21 +7,6 @@ use borrow.Author.Needs.{needs}
 use Rattle.radix_read.proofs.keeps.Statement.{statement}
 use Rattle.radix_read.proofs.keeps.Tie as tie
 
-offset-requires : tie.Need-offset-requires
-offset-requires c κs = search needs
-
-add-if1 : tie.Need-add-if1
-add-if1 c = search needs
-
-sub-between : tie.Need-sub-between
-sub-between c = search needs
-
-add-between : tie.Need-add-between
-add-between c = search needs
-
-between-requires : tie.Need-between-requires
-between-requires c κs = search needs
-
 returns : tie.Need-returns
 returns c =
     let s = c .before .before .before in
@@ -29,24 +14,12 @@ returns c =
     let o = c .before .before .offset in
     c .between .ensures ∙ before-last (a .d) (o .result) (rw (toZ-ofZ (s .fits .d)) at (o .ensures .0)) (a .w) (a .n) (a .top) (a .i) (a .half) (omega arith) (omega arith) (c .before .if1 .taken)
 
-add-if2 : tie.Need-add-if2
-add-if2 c = search needs
-
-add-between-2 : tie.Need-add-between-2
-add-between-2 c = search needs
-
-between-requires-2 : tie.Need-between-requires-2
-between-requires-2 c κs = search needs
-
 returns-2 : tie.Need-returns-2
 returns-2 c =
     let s = c .before .before .before .before in
     let a = s .args in
     let o = c .before .before .before .offset in
     c .between2 .ensures ∙ at-last (a .d) (o .result) (rw (toZ-ofZ (s .fits .d)) at (o .ensures .0)) (a .w) (a .n) (a .top) (a .i) (c .before .if2 .taken)
-
-between-requires-3 : tie.Need-between-requires-3
-between-requires-3 c κs = search needs
 
 returns-3 : tie.Need-returns-3
 returns-3 c =
@@ -58,16 +31,5 @@ returns-3 c =
 pub keeps-spec : {M : Type 1} → statement M
 keeps-spec =
     tie.close
-    (tie.spec
-    offset-requires
-    add-if1
-    sub-between
-    add-between
-    between-requires
-    returns
-    add-if2
-    add-between-2
-    between-requires-2
-    returns-2
-    between-requires-3
-    returns-3)
+    (tie.spec (λ c κs. search needs) (λ c. search needs) (λ c. search needs) (λ c. search needs) (λ c κs. search needs) returns
+    (λ c. search needs) (λ c. search needs) (λ c κs. search needs) returns-2 (λ c κs. search needs) returns-3)

@@ -18,22 +18,10 @@ use Rattle.radix_read.proofs.ReadLaws.{width-allowed, width-refused, su
 use Rattle.radix_read.proofs.read.Statement.{statement}
 use Rattle.radix_read.proofs.read.Tie as tie
 
-refused-requires : tie.Need-refused-requires
-refused-requires c κs = search needs
-
 returns : tie.Need-returns
 returns c =
     let a = c .before .before .args in
     reads-refused (cardR (a .w)) (a .digits .now) _ _ WrongLength (refused-1 (cardR (a .w)) (a .digits .now) .1 (λ e. omega arith)) (λ z. omega arith) (c .refused .ensures)
-
-shape-requires : tie.Need-shape-requires
-shape-requires c κs = search needs
-
-number-requires : tie.Need-number-requires
-number-requires c κs = search needs
-
-refused-requires-2 : tie.Need-refused-requires-2
-refused-requires-2 c κs = search needs
 
 returns-2 : tie.Need-returns-2
 returns-2 c =
@@ -54,12 +42,6 @@ allowed c =
 first-fault-requires : tie.Need-first-fault-requires
 first-fault-requires c κs = let k = c .before .before in (allowed c, k .shape .ensures .counted, k .shape .ensures .topped, omega arith)
 
-number-requires-2 : tie.Need-number-requires-2
-number-requires-2 c κs = search needs
-
-refused-requires-3 : tie.Need-refused-requires-3
-refused-requires-3 c κs = search needs
-
 offers : (c : tie.After-first-fault) → let a = c .before .before .before .before .before .args in Offered (cardR (a .w)) (a .digits .now)
 offers c = record { long = omega arith; allowed = allowed (c .before) }
 
@@ -74,9 +56,6 @@ slice-aggregate-read-sum c =
     let k = c .before .before .before in
     sym (length-take-le _ _ (omega (arith, row-fits (k .before .before .before .before .before .args .w) (allowed (k .before)) .most, k .before .before .before .shape .ensures .counted)))
 
-read-sum-requires : tie.Need-read-sum-requires
-read-sum-requires c κs = search needs
-
 returns-4 : tie.Need-returns-4
 returns-4 c =
     let n = c .before .before .before .before in
@@ -89,17 +68,6 @@ returns-4 c =
 pub read-spec : {M : Type 1} → statement M
 read-spec =
     tie.close
-    (tie.spec
-    refused-requires
-    returns
-    shape-requires
-    number-requires
-    refused-requires-2
-    returns-2
-    first-fault-requires
-    number-requires-2
-    refused-requires-3
-    returns-3
-    slice-aggregate-read-sum
-    read-sum-requires
-    returns-4)
+    (tie.spec (λ c κs. search needs) returns (λ c κs. search needs) (λ c κs. search needs) (λ c κs. search needs) returns-2
+    first-fault-requires (λ c κs. search needs) (λ c κs. search needs) returns-3 slice-aggregate-read-sum
+    (λ c κs. search needs) returns-4)

@@ -7,23 +7,11 @@ use Rattle.sum.proofs.add_digit.Tie as tie
 added : (c : tie.Start) → DigitAdded (c .args .sum) (c .args .bits) (c .args .digit) (c .args .w)
 added c = digit-added (c .args .sum) (c .args .bits) (c .args .digit) (c .args .w) (c .pre)
 
-cast-result : tie.Need-cast-result
-cast-result c = search needs
-
-shl-result : tie.Need-shl-result
-shl-result c = search needs
-
 add-result : tie.Need-add-result
 add-result c = record { fits = added c .raised-fits }
 
 sub-result : tie.Need-sub-result
 sub-result c = added c .raised-enough
-
-cast-result-2 : tie.Need-cast-result-2
-cast-result-2 c = search needs
-
-shl-result-2 : tie.Need-shl-result-2
-shl-result-2 c = search needs
 
 add-result-2 : tie.Need-add-result-2
 add-result-2 c = record { fits = added c .sum-fits }
@@ -34,12 +22,5 @@ returns c = (added c .sum-is, added c .sum-small)
 pub add-digit-spec : {M : Type 1} → statement M
 add-digit-spec =
     tie.close
-    (tie.spec
-    cast-result
-    shl-result
-    add-result
-    sub-result
-    cast-result-2
-    shl-result-2
-    add-result-2
+    (tie.spec (λ c. search needs) (λ c. search needs) add-result sub-result (λ c. search needs) (λ c. search needs) add-result-2
     returns)

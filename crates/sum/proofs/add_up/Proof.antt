@@ -5,7 +5,7 @@ use native.Mathlib.Omega.{arith}
 use lib.ListN.{length, length-set, take}
 use borrow.Author.Needs.{needs}
 use Rattle.rules.specs.Integer.{integer}
-use Rattle.sum.specs.Adds.{Adds}
+use Rattle.sum.specs.inner.Adds.{Adds}
 use Rattle.sum.proofs.SumLaws.{adds-none, adds-byte, adds-all, rest-small}
 use Rattle.sum.proofs.add_up.Statement.{statement}
 use Rattle.sum.proofs.add_up.Tie as tie
@@ -25,24 +25,6 @@ abbrev μ-loop : tie.MeasureT-loop
 loop-holds : tie.Need-loop-holds Inv-loop μ-loop
 loop-holds c = (search needs, search needs, search needs, search needs, search needs, adds-none (c .args .digits .now) (c .args .w))
 
-gather-requires : tie.Need-gather-requires Inv-loop μ-loop
-gather-requires c κs = search needs
-
-cast-bytes : tie.Need-cast-bytes Inv-loop μ-loop
-cast-bytes c = search needs
-
-array-write-bytes : tie.Need-array-write-bytes Inv-loop μ-loop
-array-write-bytes c = search needs
-
-sub-t13 : tie.Need-sub-t13 Inv-loop μ-loop
-sub-t13 c = search needs
-
-add-at : tie.Need-add-at Inv-loop μ-loop
-add-at c = search needs
-
-loop-less : tie.Need-loop-less Inv-loop μ-loop
-loop-less c = search needs
-
 loop-again : tie.Need-loop-again Inv-loop μ-loop
 loop-again c =
     let loop = c .before .before .before .before .before .loop in
@@ -55,15 +37,6 @@ loop-again c =
       adds-byte (loop .at) (loop .bytes) (omega arith) (g .keeps (loop .at) (integer (take (loop .at) (loop .bytes))) (loop .inv .5)) (g .full),
     )
 
-gather-requires-2 : tie.Need-gather-requires-2 Inv-loop μ-loop
-gather-requires-2 c κs = search needs
-
-cast-t15 : tie.Need-cast-t15 Inv-loop μ-loop
-cast-t15 c = search needs
-
-shl-t16 : tie.Need-shl-t16 Inv-loop μ-loop
-shl-t16 c = search needs
-
 returns : tie.Need-returns Inv-loop μ-loop
 returns c =
     let loop = c .before .before .before .loop in
@@ -75,18 +48,6 @@ returns c =
 pub add-up-spec : {M : Type 1} → statement M
 add-up-spec =
     tie.close
-    (tie.spec
-    Inv-loop
-    μ-loop
-    loop-holds
-    gather-requires
-    cast-bytes
-    array-write-bytes
-    sub-t13
-    add-at
-    loop-less
-    loop-again
-    gather-requires-2
-    cast-t15
-    shl-t16
+    (tie.spec Inv-loop μ-loop loop-holds (λ c κs. search needs) (λ c. search needs) (λ c. search needs) (λ c. search needs)
+    (λ c. search needs) (λ c. search needs) loop-again (λ c κs. search needs) (λ c. search needs) (λ c. search needs)
     returns)

@@ -2,7 +2,7 @@
 use Prim.Native.Nat.{ℕ, _+_, _-_, _^_, _≤_, _<_}
 use native.Mathlib.Omega.{arith}
 use borrow.Author.Needs.{needs}
-use Rattle.sum.specs.Adds.{Adds}
+use Rattle.sum.specs.inner.Adds.{Adds}
 use Rattle.sum.proofs.SumLaws.{adds-more}
 use Rattle.sum.proofs.gather.Statement.{statement}
 use Rattle.sum.proofs.gather.Tie as tie
@@ -19,21 +19,6 @@ abbrev μ-loop : tie.MeasureT-loop
 
 loop-holds : tie.Need-loop-holds Inv-loop μ-loop
 loop-holds c = (omega arith, omega arith, c .pre .0, λ at low a. a)
-
-offset-at-requires : tie.Need-offset-at-requires Inv-loop μ-loop
-offset-at-requires c κs = search needs
-
-add-digit-requires : tie.Need-add-digit-requires Inv-loop μ-loop
-add-digit-requires c κs = search needs
-
-add-bits : tie.Need-add-bits Inv-loop μ-loop
-add-bits c = search needs
-
-add-next : tie.Need-add-next Inv-loop μ-loop
-add-next c = search needs
-
-loop-less : tie.Need-loop-less Inv-loop μ-loop
-loop-less c = search needs
 
 loop-again : tie.Need-loop-again Inv-loop μ-loop
 loop-again c =
@@ -52,14 +37,5 @@ returns c =
 pub gather-spec : {M : Type 1} → statement M
 gather-spec =
     tie.close
-    (tie.spec
-    Inv-loop
-    μ-loop
-    loop-holds
-    offset-at-requires
-    add-digit-requires
-    add-bits
-    add-next
-    loop-less
-    loop-again
-    returns)
+    (tie.spec Inv-loop μ-loop loop-holds (λ c κs. search needs) (λ c κs. search needs) (λ c. search needs) (λ c. search needs)
+    (λ c. search needs) loop-again returns)

@@ -15,43 +15,20 @@ bytes c =
     let byte : (k : ℕ) → Fits w8 (getD (c .args .sum .bytes) k 0) = λ k. search needs in
     record { long = search needs; small = λ k. byte k .fits }
 
-refused-requires : tie.Need-refused-requires
-refused-requires c κs = search needs
-
 returns : tie.Need-returns
 returns c = judged-negative (bytes (c .before .before .before)) (c .before .if1 .taken) (c .refused .ensures)
 
-refused-requires-2 : tie.Need-refused-requires-2
-refused-requires-2 c κs = search needs
-
 returns-2 : tie.Need-returns-2
 returns-2 c = judged-past (bytes (c .before .before .before .before .before)) (c .before .if2 .taken) (c .refused2 .ensures)
-
-largest-top-requires : tie.Need-largest-top-requires
-largest-top-requires c κs = search needs
-
-array-read-if3 : tie.Need-array-read-if3
-array-read-if3 c = search needs
-
-refused-requires-3 : tie.Need-refused-requires-3
-refused-requires-3 c κs = search needs
 
 returns-3 : tie.Need-returns-3
 returns-3 c = judged-over (bytes (c .before .before .before .before .before .before .before .before)) (omega arith) (omega arith) (c .refused3 .ensures)
 
 returns-4 : tie.Need-returns-4
-returns-4 c = judged-done (bytes (c .before .before .before .before .before .before .before)) (omega arith) (omega arith)
+returns-4 c = judged-done (bytes (c .before .before .before .before .before .before .before .before)) (omega arith) (omega arith) (c .done .ensures)
 
 pub judge-spec : {M : Type 1} → statement M
 judge-spec =
     tie.close
-    (tie.spec
-    refused-requires
-    returns
-    refused-requires-2
-    returns-2
-    largest-top-requires
-    array-read-if3
-    refused-requires-3
-    returns-3
-    returns-4)
+    (tie.spec (λ c κs. search needs) returns (λ c κs. search needs) returns-2 (λ c κs. search needs) (λ c. search needs)
+    (λ c κs. search needs) returns-3 (λ c κs. search needs) returns-4)

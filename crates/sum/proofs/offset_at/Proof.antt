@@ -10,12 +10,6 @@ use borrow.Author.Needs.{needs}
 use Rattle.sum.proofs.offset_at.Statement.{statement}
 use Rattle.sum.proofs.offset_at.Tie as tie
 
-shared-slice-copy-out-offset : tie.Need-shared-slice-copy-out-offset
-shared-slice-copy-out-offset c = search needs
-
-offset-requires : tie.Need-offset-requires
-offset-requires c κs = search needs
-
 returns : tie.Need-returns
 returns c =
     let d = getD (now (c .before .before .before .args .digits)) (c .before .before .before .args .i) (pos 0) in
@@ -26,4 +20,4 @@ returns-2 : tie.Need-returns-2
 returns-2 c = (rw (List·getD-eq-default (now (c .before .args .digits)) (pos 0) (c .if1 .left)), lit< tt)
 
 pub offset-at-spec : {M : Type 1} → statement M
-offset-at-spec = tie.close (tie.spec shared-slice-copy-out-offset offset-requires returns returns-2)
+offset-at-spec = tie.close (tie.spec (λ c. search needs) (λ c κs. search needs) returns returns-2)

@@ -7,20 +7,11 @@ use Rattle.sum.proofs.SumLaws.{reads-wrong, reads-sum}
 use Rattle.sum.proofs.read_sum.Statement.{statement}
 use Rattle.sum.proofs.read_sum.Tie as tie
 
-refused-requires : tie.Need-refused-requires
-refused-requires c κs = search needs
-
 returns : tie.Need-returns
 returns c = reads-wrong (λ l h f. omega arith) (c .refused .ensures)
 
-refused-requires-2 : tie.Need-refused-requires-2
-refused-requires-2 c κs = search needs
-
 returns-2 : tie.Need-returns-2
 returns-2 c = reads-wrong (λ l h f. omega arith) (c .refused2 .ensures)
-
-refused-requires-3 : tie.Need-refused-requires-3
-refused-requires-3 c κs = search needs
 
 returns-3 : tie.Need-returns-3
 returns-3 c = reads-wrong (λ l h f. omega (arith, mul-le-mul-right (length (c .before .before .before .before .args .digits .now)) l)) (c .refused3 .ensures)
@@ -31,17 +22,8 @@ mul-if4 c =
     let most = mul-le-mul {n₁ = a .w} {m₁ = length (a .digits .now)} {n₂ = 8} {m₂ = 264} (omega arith) (omega arith) in
     record { fits = omega (arith, most) }
 
-refused-requires-4 : tie.Need-refused-requires-4
-refused-requires-4 c κs = search needs
-
 returns-4 : tie.Need-returns-4
 returns-4 c = reads-wrong (λ l h f. omega arith) (c .refused4 .ensures)
-
-add-up-requires : tie.Need-add-up-requires
-add-up-requires c κs = search needs
-
-judge-requires : tie.Need-judge-requires
-judge-requires c κs = search needs
 
 returns-5 : tie.Need-returns-5
 returns-5 c = reads-sum (omega arith) (omega arith) (omega arith) (c .judge .ensures _ (c .before .add-up .ensures))
@@ -49,16 +31,5 @@ returns-5 c = reads-sum (omega arith) (omega arith) (omega arith) (c .judge .ens
 pub read-sum-spec : {M : Type 1} → statement M
 read-sum-spec =
     tie.close
-    (tie.spec
-    refused-requires
-    returns
-    refused-requires-2
-    returns-2
-    refused-requires-3
-    returns-3
-    mul-if4
-    refused-requires-4
-    returns-4
-    add-up-requires
-    judge-requires
-    returns-5)
+    (tie.spec (λ c κs. search needs) returns (λ c κs. search needs) returns-2 (λ c κs. search needs) returns-3 mul-if4
+    (λ c κs. search needs) returns-4 (λ c κs. search needs) (λ c κs. search needs) returns-5)

@@ -13,8 +13,7 @@ use Rattle.rules.specs.Digits.{weighted}
 use Rattle.rules.specs.Test.{rangeFault}
 use Rattle.sum.specs.SumRead.{endOf}
 
--- The first `next` digits are added up. `at` bytes are written, their integer is `low`, and `held` stands above them; it counts
--- from 128 at its bit number `bits`, so that it is never negative.
+-- The first `next` digits lie in `at` bytes, whose integer is `low`, and in `held` above them, which counts from 128 at its bit `bits` so that it is never negative.
 pub record Adds (ds : List ℤ) (w at low next held bits : ℕ) : Type 0 where
   pub place : 8 * at + bits ≡ w * next
   pub sum : weighted (2 ^ w) (take next ds) +ℤ pos (128 * 2 ^ (w * next)) ≡ pos (low + 256 ^ at * held)
