@@ -5,20 +5,21 @@ use mathlib.Core.List.{List, _++_}
 use Prim.Native.Nat.{ℕ, _-_, _≤_, _<_}
 use native.Mathlib.Decide.{ℕ-discrete}
 use native.Mathlib.Omega.{arith}
+use lib.Dec.{T}
 use lib.ListN.{length, replicate, length-append}
 use lib.IntN.{ℤ}
 use Rattle.rules.specs.declared.Verdict.{Verdict}
 use Rattle.rules.specs.declared.Verdict.the-variants.{WrongLength, WrongForm}
-use Rattle.rules.proofs.Promises.{done-or-refused}
-use Rattle.rules.proofs.Tally.{count-most}
-use Rattle.rules.proofs.Table.{row-fits}
-use Rattle.naf.specs.NonAdjacentForm.{dueN, RecodesN}
-use Rattle.radix.specs.RadixForm.{dueR, RecodesR}
-use Rattle.naf.proofs.NafPromise.{naf-determined}
-use Rattle.radix.proofs.Promised.{due-width, radix-determined}
+use Rattle.rules.specs.Forms.{Form, cardN, cardR}
+use Rattle.rules.specs.Promises.{Recodes}
+use Rattle.rules.specs.Exactly.{Lawful}
+use Rattle.rules.proofs.Promises.{recodes-long, recodes-determined, tally-inside}
+use Rattle.rules.proofs.Exactly.{lawful-card-n, lawful-card-r}
 use Rattle.report.specs.Ascii.{ascii}
 use Rattle.report.specs.Text.{fixedLine, formLine, refusedLine, answerLines}
-use Rattle.report.specs.Report.{letterOf, widthOf, scalarOf, letterN, letterR, LinesN, LinesR, Lines, Reports}
+use Rattle.report.specs.Report.{letterOf, widthOf, scalarOf, letterN, letterR, LinesOf, Lines, Reports}
+use Rattle.report.specs.inner.Put.{Put}
+use Rattle.report.specs.inner.Written.{WrittenOf}
 use Rattle.report.proofs.PutLaws.{decimal-length}
 
 pub form-line-length : (letter w count : ℕ) → length (formLine letter w count) ≤ 32
@@ -27,35 +28,32 @@ form-line-length letter w count = simp length-append (omega (arith, decimal-leng
 
 -- ---- what a recoder's reply says
 
-module _ {bytes : List ℕ} {w : ℕ} {a : Verdict} {ds : List ℤ} {counted added : ℕ} where
-  pub lines-n : RecodesN bytes w a ds counted added → LinesN bytes w (answerLines letterN w a counted ds)
-  lines-n p = let e = p .recodes .answered in record { digits = ds; counted = counted; added = added; recodes = rw e at p; are = rw e }
+module _ {bytes : List ℕ} {a : Verdict} {ds : List ℤ} {counted added : ℕ} where
+  -- it fits where an answer is written: a count, at most the number of entries, has at most three figures
+  pub answer-fits : (F : Form) → (T (F .allowed) → Lawful F) → F .long ≤ 256 → Recodes F bytes a ds counted added → {w at room : ℕ} → (at ≤ room) × (w < 256) → (w < 1000) × (counted < 1000) × (length ds ≤ 256) × (at ≤ room)
+  answer-fits F lawful few p h = (omega arith, omega (arith, tally-inside F lawful bytes p), omega (arith, recodes-long F bytes p), h .0)
 
-  pub lines-r : RecodesR bytes w a ds counted added → LinesR bytes w (answerLines letterR w a counted ds)
-  lines-r p = let e = p .recodes .answered in record { digits = ds; counted = counted; added = added; recodes = rw e at p; are = rw e }
+  -- and its lines are the form's
+  module _ (w letter : ℕ) (F : ℕ → Form) (p : Recodes (F w) bytes a ds counted added) where
+    lines-of : LinesOf letter F bytes w (answerLines letter w a counted ds)
+    lines-of = let e = p .answered in record { digits = ds; counted = counted; added = added; recodes = rw e at p; are = rw e }
 
-  -- a count has at most three figures
-  pub count-n : RecodesN bytes w a ds counted added → counted < 1000
-  count-n p = omega (arith, p .counts, count-most ds, p .recodes .long)
-
-  pub count-r : RecodesR bytes w a ds counted added → counted < 1000
-  count-r p = done-or-refused (dueR bytes w) (λ d. omega (arith, p .counts d, row-fits w (due-width bytes w d) .most)) (λ n. omega (arith, p .uncounted n))
+    pub written-of : {before after : List ℕ} {at next : ℕ} → Put before at (answerLines letter w a counted ds) after next → WrittenOf letter F bytes w before at after next
+    written-of q = record { lines = _; says = lines-of; puts = q }
 
 -- ---- the lines of an input
 
-module _ (input : List ℕ) where
-  pub says-wrong-length : length input ≢ 34 → Lines input (refusedLine WrongLength)
-  says-wrong-length n = record { wrong-length = λ _. refl; wrong-form = λ l. absurd (n l); form-n = λ l. absurd (n l); form-r = λ l. absurd (n l) }
+module _ (input : List ℕ) {lines : List ℕ} where
+  pub says-wrong-length : length input ≢ 34 → lines ≡ refusedLine WrongLength → Lines input lines
+  says-wrong-length n e = record { wrong-length = λ _. e; wrong-form = λ l. absurd (n l); form-n = λ l. absurd (n l); form-r = λ l. absurd (n l) }
 
-  module _ (l : length input ≡ 34) where
-    pub says-wrong-form : letterOf input ≢ letterN → letterOf input ≢ letterR → Lines input (refusedLine WrongForm)
-    says-wrong-form a b = record { wrong-length = λ n. absurd (n l); wrong-form = λ _ _ _. refl; form-n = λ _ e. absurd (a e); form-r = λ _ e. absurd (b e) }
-
-    pub says-n : {lines : List ℕ} → letterOf input ≡ letterN → LinesN (scalarOf input) (widthOf input) lines → Lines input lines
-    says-n e p = record { wrong-length = λ n. absurd (n l); wrong-form = λ _ a _. absurd (a e); form-n = λ _ _. p; form-r = λ _ f. absurd (omega arith) }
-
-    pub says-r : {lines : List ℕ} → letterOf input ≡ letterR → LinesR (scalarOf input) (widthOf input) lines → Lines input lines
-    says-r e p = record { wrong-length = λ n. absurd (n l); wrong-form = λ _ _ b. absurd (b e); form-n = λ _ f. absurd (omega arith); form-r = λ _ _. p }
+  -- of 34 bytes: by the letter
+  pub says-by-letter : length input ≡ 34
+      → (letterOf input ≢ letterN → letterOf input ≢ letterR → lines ≡ refusedLine WrongForm)
+      → (letterOf input ≡ letterN → LinesOf letterN cardN (scalarOf input) (widthOf input) lines)
+      → (letterOf input ≡ letterR → LinesOf letterR cardR (scalarOf input) (widthOf input) lines)
+      → Lines input lines
+  says-by-letter l neither n r = record { wrong-length = λ f. absurd (f l); wrong-form = λ _. neither; form-n = λ _. n; form-r = λ _. r }
 
 pub fixed-line-length : length fixedLine ≡ 14
 unfolding fixedLine ascii
@@ -63,16 +61,16 @@ fixed-line-length = refl
 
 -- ---- one report for each input
 
-agreed : (letter w : ℕ) (v : Verdict) {c c′ : ℕ} {ds ds′ : List ℤ} {l l′ : List ℕ} → ds ≡ ds′ → c ≡ c′ → l ≡ answerLines letter w v c ds → l′ ≡ answerLines letter w v c′ ds′ → l ≡ l′
-agreed letter w v e f p q = p ∙ rw (e, f) (sym q)
+agreed : (letter : ℕ) (F : ℕ → Form) (bytes : List ℕ) (w : ℕ) {l l′ : List ℕ} → (T (F w .allowed) → Lawful (F w)) → LinesOf letter F bytes w l → LinesOf letter F bytes w l′ → l ≡ l′
+agreed letter F bytes w lawful p q = let d = recodes-determined (F w) lawful bytes (p .recodes) (q .recodes) in p .are ∙ rw (d .1, d .2) (sym (q .are))
 
 lines-determined : (input : List ℕ) {l l′ : List ℕ} → Lines input l → Lines input l′ → l ≡ l′
 lines-determined input {l} {l′} p q =
     by-cases (ℕ-discrete (length input) 34)
     (λ e. by-cases (ℕ-discrete (letterOf input) letterN)
-    (λ n. let a = p .form-n e n in let b = q .form-n e n in let d = naf-determined (scalarOf input) (widthOf input) (a .recodes) (b .recodes) in agreed letterN (widthOf input) (dueN (scalarOf input) (widthOf input)) (d .1) (d .2) (a .are) (b .are))
+    (λ n. agreed letterN cardN (scalarOf input) (widthOf input) (lawful-card-n (widthOf input)) (p .form-n e n) (q .form-n e n))
     (λ n. by-cases (ℕ-discrete (letterOf input) letterR)
-    (λ r. let a = p .form-r e r in let b = q .form-r e r in let d = radix-determined (scalarOf input) (widthOf input) (a .recodes) (b .recodes) in agreed letterR (widthOf input) (dueR (scalarOf input) (widthOf input)) (d .1) (d .2) (a .are) (b .are))
+    (λ r. agreed letterR cardR (scalarOf input) (widthOf input) (lawful-card-r (widthOf input)) (p .form-r e r) (q .form-r e r))
     (λ r. p .wrong-form e n r ∙ sym (q .wrong-form e n r))))
     (λ n. p .wrong-length n ∙ sym (q .wrong-length n))
 

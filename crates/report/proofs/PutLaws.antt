@@ -16,7 +16,7 @@ use Rattle.rules.specs.declared.Verdict.{Verdict}
 use Rattle.rules.specs.Digits.{digitAt, isZero}
 use Rattle.rules.specs.Verdicts.{number}
 use Rattle.report.specs.Ascii.{ascii}
-use Rattle.report.specs.Put.{Put}
+use Rattle.report.specs.inner.Put.{Put}
 use Rattle.report.specs.Text.{decimal, signedDecimal, digitLine, digitLines, refusedLine}
 
 pub put-nothing : (l : List ℕ) (a : ℕ) → Put l a [] l a

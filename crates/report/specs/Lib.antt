@@ -1,5 +1,4 @@
 pub mod Ascii
 pub mod Text
-pub mod Put
 pub mod Report
-pub mod Written
+pub mod inner

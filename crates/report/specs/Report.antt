@@ -7,8 +7,8 @@ use mathlib.Core.List.{List, _++_}
 use lib.ListN.{length, getD, drop, replicate}
 use lib.IntN.{ℤ}
 use Rattle.rules.specs.declared.Verdict.the-variants.{WrongLength, WrongForm}
-use Rattle.naf.specs.NonAdjacentForm.{dueN, RecodesN}
-use Rattle.radix.specs.RadixForm.{dueR, RecodesR}
+use Rattle.rules.specs.Forms.{Form, cardN, cardR}
+use Rattle.rules.specs.Promises.{due, Recodes}
 use Rattle.report.specs.Text.{fixedLine, refusedLine, answerLines}
 
 -- The input's first byte: the form letter.
@@ -31,28 +31,20 @@ letterN = code "N"
 abbrev pub letterR : ℕ
 letterR = code "R"
 
--- The lines of N's recoding, whatever the recoder's promise allows.
-pub record LinesN (bytes : List ℕ) (w : ℕ) (lines : List ℕ) : Type 0 where
+-- The lines of a form's recoding, whatever the recoder's promise allows.
+pub record LinesOf (letter : ℕ) (F : ℕ → Form) (bytes : List ℕ) (w : ℕ) (lines : List ℕ) : Type 0 where
   pub digits : List ℤ
   pub counted : ℕ
   pub added : ℕ
-  pub recodes : RecodesN bytes w (dueN bytes w) digits counted added
-  pub are : lines ≡ answerLines letterN w (dueN bytes w) counted digits
-
--- The same for R.
-pub record LinesR (bytes : List ℕ) (w : ℕ) (lines : List ℕ) : Type 0 where
-  pub digits : List ℤ
-  pub counted : ℕ
-  pub added : ℕ
-  pub recodes : RecodesR bytes w (dueR bytes w) digits counted added
-  pub are : lines ≡ answerLines letterR w (dueR bytes w) counted digits
+  pub recodes : Recodes (F w) bytes (due (F w) bytes) digits counted added
+  pub are : lines ≡ answerLines letter w (due (F w) bytes) counted digits
 
 -- The lines after the fixed one, tried in the order 1, 2, and then the form's 3 and 4.
 pub record Lines (input lines : List ℕ) : Type 0 where
   pub wrong-length : length input ≢ 34 → lines ≡ refusedLine WrongLength
   pub wrong-form : length input ≡ 34 → letterOf input ≢ letterN → letterOf input ≢ letterR → lines ≡ refusedLine WrongForm
-  pub form-n : length input ≡ 34 → letterOf input ≡ letterN → LinesN (scalarOf input) (widthOf input) lines
-  pub form-r : length input ≡ 34 → letterOf input ≡ letterR → LinesR (scalarOf input) (widthOf input) lines
+  pub form-n : length input ≡ 34 → letterOf input ≡ letterN → LinesOf letterN cardN (scalarOf input) (widthOf input) lines
+  pub form-r : length input ≡ 34 → letterOf input ≡ letterR → LinesOf letterR cardR (scalarOf input) (widthOf input) lines
 
 -- The report: the fixed line and the lines after it, in an array whose bytes past the text are 0.
 pub record Reports (input bytes : List ℕ) (len : ℕ) : Type 0 where

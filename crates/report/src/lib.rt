@@ -12,8 +12,9 @@ use text::put_refused_line;
 ghost use mathlib.Core.Path.{_≡_};
 ghost use Prim.Native.Nat.{_+_, _<_, _≤_};
 ghost use lib.ListN.{length, drop};
-ghost use Rattle.report.specs.Report.{Reports};
-ghost use Rattle.report.specs.Written.{WrittenN, WrittenR, WrittenAll};
+ghost use Rattle.rules.specs.Forms.{cardN, cardR};
+ghost use Rattle.report.specs.Report.{letterN, letterR, Reports};
+ghost use Rattle.report.specs.inner.Written.{WrittenOf, WrittenAll};
 
 // A report: the first `len` bytes are its text, and those past it are 0.
 pub struct Output {
@@ -24,7 +25,7 @@ pub struct Output {
 // The lines of form N.
 fn put_n(buf: &mut [u8], at: usize, s: Scalar, w: usize) -> usize
     requires { ⌜ (at + 2400 ≤ length (now buf)) × (w < 256) ⌝ }
-    ensures { λ r. ⌜ WrittenN (s .bytes) w (now (buf .entry)) at (now (buf .exit)) r ⌝ }
+    ensures { λ r. ⌜ WrittenOf letterN cardN (s .bytes) w (now (buf .entry)) at (now (buf .exit)) r ⌝ }
 {
     let r = non_adjacent_form(s, w);
     let v = r.verdict;
@@ -35,7 +36,7 @@ fn put_n(buf: &mut [u8], at: usize, s: Scalar, w: usize) -> usize
 // The lines of form R.
 fn put_r(buf: &mut [u8], at: usize, s: Scalar, w: usize) -> usize
     requires { ⌜ (at + 2400 ≤ length (now buf)) × (w < 256) ⌝ }
-    ensures { λ r. ⌜ WrittenR (s .bytes) w (now (buf .entry)) at (now (buf .exit)) r ⌝ }
+    ensures { λ r. ⌜ WrittenOf letterR cardR (s .bytes) w (now (buf .entry)) at (now (buf .exit)) r ⌝ }
 {
     let r = as_radix_2w(s, w);
     let v = r.verdict;

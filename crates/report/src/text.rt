@@ -4,7 +4,7 @@ use rules::Verdict;
 ghost use Prim.Native.Nat.{_+_, _*_, _<_, _≤_};
 ghost use mathlib.Core.List.{[], _∷_};
 ghost use lib.ListN.{length};
-ghost use Rattle.report.specs.Put.{Put};
+ghost use Rattle.report.specs.inner.Put.{Put};
 ghost use Rattle.report.specs.Text.{decimal, signedDecimal, fixedLine, formLine, digitLine, digitLines, refusedLine, answerLines};
 
 // One byte.

@@ -8,15 +8,6 @@ use borrow.Author.Needs.{needs}
 use Rattle.report.proofs.report.Statement.{statement}
 use Rattle.report.proofs.report.Tie as tie
 
-slice-aggregate-put-fixed-line : tie.Need-slice-aggregate-put-fixed-line
-slice-aggregate-put-fixed-line c = search needs
-
-put-fixed-line-requires : tie.Need-put-fixed-line-requires
-put-fixed-line-requires c κs = search needs
-
-slice-aggregate-put-lines : tie.Need-slice-aggregate-put-lines
-slice-aggregate-put-lines c = search needs
-
 put-lines-requires : tie.Need-put-lines-requires
 put-lines-requires c κs = let f = c .before .before .put-fixed-line .ensures in omega (arith, f .long, f .moved, fixed-line-length)
 
@@ -27,11 +18,4 @@ returns c =
     record { lines = l .lines; says = l .says; text = put-zeros 2560 p; long = p .moved ∙ zero-add _ }
 
 pub report-spec : {M : Type 1} → statement M
-report-spec =
-    tie.close
-    (tie.spec
-    slice-aggregate-put-fixed-line
-    put-fixed-line-requires
-    slice-aggregate-put-lines
-    put-lines-requires
-    returns)
+report-spec = tie.close (tie.spec (λ c. search needs) (λ c κs. search needs) (λ c. search needs) put-lines-requires returns)

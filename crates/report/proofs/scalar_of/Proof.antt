@@ -8,18 +8,6 @@ use Prim.Native.Nat.{_-_}
 use Rattle.report.proofs.scalar_of.Statement.{statement}
 use Rattle.report.proofs.scalar_of.Tie as tie
 
-sub-from-slice : tie.Need-sub-from-slice
-sub-from-slice c = search needs
-
-part-from-slice-start : tie.Need-part-from-slice-start
-part-from-slice-start c = search needs
-
-part-from-slice-end : tie.Need-part-from-slice-end
-part-from-slice-end c = search needs
-
-from-slice-requires : tie.Need-from-slice-requires
-from-slice-requires c κs = search needs
-
 returns : tie.Need-returns
 returns c =
     let input = c .before .before .before .before .args .input .now in
@@ -28,4 +16,4 @@ returns c =
     c .before .from-slice .ensures .done (rw e l) .1 ∙ e
 
 pub scalar-of-spec : {M : Type 1} → statement M
-scalar-of-spec = tie.close (tie.spec sub-from-slice part-from-slice-start part-from-slice-end from-slice-requires returns)
+scalar-of-spec = tie.close (tie.spec (λ c. search needs) (λ c. search needs) (λ c. search needs) (λ c κs. search needs) returns)

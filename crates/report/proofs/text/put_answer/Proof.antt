@@ -8,32 +8,17 @@ use Rattle.report.proofs.LineLaws.{form-line-length}
 use Rattle.report.proofs.text.put_answer.Statement.{statement}
 use Rattle.report.proofs.text.put_answer.Tie as tie
 
-number-requires : tie.Need-number-requires
-number-requires c κs = search needs
-
-put-refused-line-requires : tie.Need-put-refused-line-requires
-put-refused-line-requires c κs = search needs
-
-same-length : tie.Need-same-length
-same-length c = search needs
-
 returns : tie.Need-returns
 returns c =
     let t = c .before .before .before .before in
     let n = t .before in
     rw (ne-eqb _ _ (λ z. t .if1 .taken (n .number .ensures ∙ z))) (c .before .before .put-refused-line .ensures)
 
-put-form-line-requires : tie.Need-put-form-line-requires
-put-form-line-requires c κs = search needs
-
 put-digit-lines-requires : tie.Need-put-digit-lines-requires
 put-digit-lines-requires c κs =
     let p = c .before .before .before in
     let a = c .before .before .before .before .before .before .before .before .args in
     (omega arith, omega (arith, p .put-form-line .ensures .moved, p .put-form-line .ensures .long, form-line-length (a .letter) (a .w) (a .count)))
-
-same-length-2 : tie.Need-same-length-2
-same-length-2 c = search needs
 
 returns-2 : tie.Need-returns-2
 returns-2 c =
@@ -45,12 +30,5 @@ returns-2 c =
 pub put-answer-spec : {M : Type 1} → statement M
 put-answer-spec =
     tie.close
-    (tie.spec
-    number-requires
-    put-refused-line-requires
-    same-length
-    returns
-    put-form-line-requires
-    put-digit-lines-requires
-    same-length-2
-    returns-2)
+    (tie.spec (λ c κs. search needs) (λ c κs. search needs) (λ c. search needs) returns (λ c κs. search needs)
+    put-digit-lines-requires (λ c. search needs) returns-2)

@@ -6,21 +6,6 @@ use Rattle.report.proofs.PutLaws.{put-then, put-same, signed-negative, 
 use Rattle.report.proofs.text.put_digit.Statement.{statement}
 use Rattle.report.proofs.text.put_digit.Tie as tie
 
-magnitude-requires : tie.Need-magnitude-requires
-magnitude-requires c κs = search needs
-
-slice-aggregate-put-bytes : tie.Need-slice-aggregate-put-bytes
-slice-aggregate-put-bytes c = search needs
-
-put-bytes-requires : tie.Need-put-bytes-requires
-put-bytes-requires c κs = search needs
-
-put-number-requires : tie.Need-put-number-requires
-put-number-requires c κs = search needs
-
-same-length : tie.Need-same-length
-same-length c = search needs
-
 returns : tie.Need-returns
 unfolding ascii
 returns c =
@@ -30,12 +15,6 @@ returns c =
     let s = t .before .before .before in
     put-same (signed-negative (s .args .d) (back8 (s .args .d) (s .fits .d)) (t .before .magnitude .ensures .0) (t .if1 .taken))
     (put-then (c₁ .put-bytes .ensures) (c₂ .put-number .ensures))
-
-put-number-requires-2 : tie.Need-put-number-requires-2
-put-number-requires-2 c κs = search needs
-
-same-length-2 : tie.Need-same-length-2
-same-length-2 c = search needs
 
 returns-2 : tie.Need-returns-2
 returns-2 c =
@@ -47,13 +26,5 @@ returns-2 c =
 pub put-digit-spec : {M : Type 1} → statement M
 put-digit-spec =
     tie.close
-    (tie.spec
-    magnitude-requires
-    slice-aggregate-put-bytes
-    put-bytes-requires
-    put-number-requires
-    same-length
-    returns
-    put-number-requires-2
-    same-length-2
-    returns-2)
+    (tie.spec (λ c κs. search needs) (λ c. search needs) (λ c κs. search needs) (λ c κs. search needs) (λ c. search needs)
+    returns (λ c κs. search needs) (λ c. search needs) returns-2)

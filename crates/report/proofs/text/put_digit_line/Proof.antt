@@ -20,30 +20,15 @@ returns c =
     let z : s .args .d ≡ pos 0 = sym (back8 (s .args .d) (s .fits .d)) ∙ ap (toZ w8) (c .if1 .taken) in
     put-same (line-none (s .args .i) (s .args .d) z) (put-nothing (s .args .buf .now) (s .args .at))
 
-cast-put-number : tie.Need-cast-put-number
-cast-put-number c = search needs
-
-put-number-requires : tie.Need-put-number-requires
-put-number-requires c κs = search needs
-
-slice-aggregate-put-bytes : tie.Need-slice-aggregate-put-bytes
-slice-aggregate-put-bytes c = search needs
-
 put-bytes-requires : tie.Need-put-bytes-requires
 put-bytes-requires c κs = omega (arith, decimal-length (c .before .before .before .before .before .before .before .before .args .i))
 
 put-digit-requires : tie.Need-put-digit-requires
 put-digit-requires c κs = omega (arith, decimal-length (c .before .before .before .before .before .before .before .before .before .before .before .before .args .i))
 
-slice-aggregate-put-bytes-2 : tie.Need-slice-aggregate-put-bytes-2
-slice-aggregate-put-bytes-2 c = search needs
-
 put-bytes-requires-2 : tie.Need-put-bytes-requires-2
 put-bytes-requires-2 c κs =
     let a = c .before .before .before .before .before .before .before .before .before .before .before .before .before .before .before .before .before .args in omega (arith, decimal-length (a .i), signed-length (toZ w8 (ofZ w8 (a .d))))
-
-same-length : tie.Need-same-length
-same-length c = search needs
 
 returns-2 : tie.Need-returns-2
 unfolding ascii
@@ -61,14 +46,5 @@ returns-2 c =
 pub put-digit-line-spec : {M : Type 1} → statement M
 put-digit-line-spec =
     tie.close
-    (tie.spec
-    returns
-    cast-put-number
-    put-number-requires
-    slice-aggregate-put-bytes
-    put-bytes-requires
-    put-digit-requires
-    slice-aggregate-put-bytes-2
-    put-bytes-requires-2
-    same-length
-    returns-2)
+    (tie.spec returns (λ c. search needs) (λ c κs. search needs) (λ c. search needs) put-bytes-requires put-digit-requires
+    (λ c. search needs) put-bytes-requires-2 (λ c. search needs) returns-2)

@@ -7,7 +7,7 @@ use lib.ListN.{length, take}
 use lib.Seq.{take-all}
 use Rattle.rules.specs.Digits.{digitAt}
 use Rattle.digits.proofs.Signed.{back8}
-use Rattle.report.specs.Put.{Put}
+use Rattle.report.specs.inner.Put.{Put}
 use Rattle.report.specs.Text.{digitLine, digitLines}
 use Rattle.report.proofs.PutLaws.{put-nothing, put-then, put-same, lines-more, digit-line-length}
 use Rattle.report.proofs.text.put_digit_lines.Statement.{statement}
@@ -26,15 +26,6 @@ loop-holds c = (omega arith, omega arith, put-nothing _ _)
 shared-slice-copy-out-put-digit-line :
     tie.Need-shared-slice-copy-out-put-digit-line Inv-loop μ-loop
 shared-slice-copy-out-put-digit-line c = omega arith
-
-put-digit-line-requires : tie.Need-put-digit-line-requires Inv-loop μ-loop
-put-digit-line-requires c κs = omega arith
-
-add-i : tie.Need-add-i Inv-loop μ-loop
-add-i c = omega arith
-
-loop-less : tie.Need-loop-less Inv-loop μ-loop
-loop-less c = omega arith
 
 loop-again : tie.Need-loop-again Inv-loop μ-loop
 loop-again c =
@@ -56,14 +47,5 @@ returns c =
 pub put-digit-lines-spec : {M : Type 1} → statement M
 put-digit-lines-spec =
     tie.close
-    (tie.spec
-    Inv-loop
-    μ-loop
-    loop-holds
-    shared-slice-copy-out-put-digit-line
-    put-digit-line-requires
-    add-i
-    loop-less
-    loop-again
-    same-length
-    returns)
+    (tie.spec Inv-loop μ-loop loop-holds shared-slice-copy-out-put-digit-line (λ c κs. omega arith) (λ c. omega arith)
+    (λ c. omega arith) loop-again same-length returns)

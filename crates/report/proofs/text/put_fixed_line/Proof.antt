@@ -5,19 +5,9 @@ use Rattle.report.specs.Text.{fixedLine}
 use Rattle.report.proofs.text.put_fixed_line.Statement.{statement}
 use Rattle.report.proofs.text.put_fixed_line.Tie as tie
 
-slice-aggregate-put-bytes : tie.Need-slice-aggregate-put-bytes
-slice-aggregate-put-bytes c = search needs
-
-put-bytes-requires : tie.Need-put-bytes-requires
-put-bytes-requires c κs = search needs
-
-same-length : tie.Need-same-length
-same-length c = search needs
-
 returns : tie.Need-returns
 unfolding fixedLine ascii
 returns c = c .before .before .put-bytes .ensures
 
 pub put-fixed-line-spec : {M : Type 1} → statement M
-put-fixed-line-spec =
-    tie.close (tie.spec slice-aggregate-put-bytes put-bytes-requires same-length returns)
+put-fixed-line-spec = tie.close (tie.spec (λ c. search needs) (λ c κs. search needs) (λ c. search needs) returns)

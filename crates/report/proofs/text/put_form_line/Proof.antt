@@ -7,48 +7,15 @@ use Rattle.report.proofs.PutLaws.{put-then, decimal-length}
 use Rattle.report.proofs.text.put_form_line.Statement.{statement}
 use Rattle.report.proofs.text.put_form_line.Tie as tie
 
-slice-aggregate-put-bytes : tie.Need-slice-aggregate-put-bytes
-slice-aggregate-put-bytes c = search needs
-
-put-bytes-requires : tie.Need-put-bytes-requires
-put-bytes-requires c κs = search needs
-
-put-byte-requires : tie.Need-put-byte-requires
-put-byte-requires c κs = search needs
-
-slice-aggregate-put-bytes-2 : tie.Need-slice-aggregate-put-bytes-2
-slice-aggregate-put-bytes-2 c = search needs
-
-put-bytes-requires-2 : tie.Need-put-bytes-requires-2
-put-bytes-requires-2 c κs = search needs
-
-cast-put-number : tie.Need-cast-put-number
-cast-put-number c = search needs
-
-put-number-requires : tie.Need-put-number-requires
-put-number-requires c κs = search needs
-
-slice-aggregate-put-bytes-3 : tie.Need-slice-aggregate-put-bytes-3
-slice-aggregate-put-bytes-3 c = search needs
-
 put-bytes-requires-3 : tie.Need-put-bytes-requires-3
 put-bytes-requires-3 c κs = omega (arith, decimal-length (c .before .before .before .before .before .before .before .before .before .before .before .before .before .before .before .before .before .before .before .before .before .args .w))
-
-cast-put-number-2 : tie.Need-cast-put-number-2
-cast-put-number-2 c = search needs
 
 put-number-requires-2 : tie.Need-put-number-requires-2
 put-number-requires-2 c κs = omega (arith, decimal-length (c .before .before .before .before .before .before .before .before .before .before .before .before .before .before .before .before .before .before .before .before .before .before .before .before .before .args .w))
 
-slice-aggregate-put-bytes-4 : tie.Need-slice-aggregate-put-bytes-4
-slice-aggregate-put-bytes-4 c = search needs
-
 put-bytes-requires-4 : tie.Need-put-bytes-requires-4
 put-bytes-requires-4 c κs =
     let a = c .before .before .before .before .before .before .before .before .before .before .before .before .before .before .before .before .before .before .before .before .before .before .before .before .before .before .before .before .before .before .args in omega (arith, decimal-length (a .w), decimal-length (a .count))
-
-same-length : tie.Need-same-length
-same-length c = search needs
 
 returns : tie.Need-returns
 unfolding formLine ascii
@@ -66,19 +33,6 @@ returns c =
 pub put-form-line-spec : {M : Type 1} → statement M
 put-form-line-spec =
     tie.close
-    (tie.spec
-    slice-aggregate-put-bytes
-    put-bytes-requires
-    put-byte-requires
-    slice-aggregate-put-bytes-2
-    put-bytes-requires-2
-    cast-put-number
-    put-number-requires
-    slice-aggregate-put-bytes-3
-    put-bytes-requires-3
-    cast-put-number-2
-    put-number-requires-2
-    slice-aggregate-put-bytes-4
-    put-bytes-requires-4
-    same-length
-    returns)
+    (tie.spec (λ c. search needs) (λ c κs. search needs) (λ c κs. search needs) (λ c. search needs) (λ c κs. search needs)
+    (λ c. search needs) (λ c κs. search needs) (λ c. search needs) put-bytes-requires-3 (λ c. search needs)
+    put-number-requires-2 (λ c. search needs) put-bytes-requires-4 (λ c. search needs) returns)
