@@ -1,0 +1,5 @@
+pub mod Codes
+pub mod Lengths
+pub mod Answers
+pub mod Given
+pub mod Determined

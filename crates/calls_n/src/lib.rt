@@ -1,0 +1,40 @@
+// The calls of form N.
+use calls::code::code_of;
+use calls::give_bytes::give_bytes;
+use calls::give_digits::give_digits;
+use naf::recode::non_adjacent_form;
+use scalar::slice::from_slice;
+ghost use Rattle.rules.specs.Forms.{cardN};
+ghost use Rattle.calls.specs.Forms.{CardRecode, CardTest, CardRead};
+
+pub fn recode(scalar: &[u8], width: usize, digits: &mut [i8], tally: &mut [u32]) -> u64
+    ensures { λ r. ⌜
+        CardRecode (cardN width) (now (scalar .entry))
+        (now (digits .entry)) (now (tally .entry)) (now (digits .exit)) (now (tally .exit)) r ⌝ }
+{
+    let taken = from_slice(scalar);
+    let made = non_adjacent_form(taken.scalar, width);
+    let short = taken.verdict;
+    let due = made.verdict;
+    let verdict = short.or_else(due);
+    let string = made.digits;
+    let count = made.count as u32;
+    let additions = made.additions as u32;
+    let figures = [count, additions];
+    give_digits(verdict, &string, &figures, digits, tally)
+}
+
+pub fn test(digits: &[i8], width: usize) -> u64
+    ensures { λ r. ⌜ CardTest (cardN width) (now (digits .entry)) r ⌝ }
+{
+    code_of(naf_read::test(digits, width))
+}
+
+pub fn read(digits: &[i8], width: usize, out: &mut [u8]) -> u64
+    ensures { λ r. ⌜ CardRead (cardN width) (now (digits .entry)) (now (out .entry)) (now (out .exit)) r ⌝ }
+{
+    let found = naf_read::read(digits, width);
+    let verdict = found.verdict;
+    let bytes = found.scalar.bytes;
+    give_bytes(verdict, &bytes, out)
+}
