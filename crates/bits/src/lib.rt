@@ -29,7 +29,7 @@ pub fn bits_le(s: Scalar) -> [bool; 256]
 }
 
 // A bit as a number.
-fn one_if(bit: bool) -> u8
+pub fn one_if(bit: bool) -> u8
     ensures { λ r. ⌜ (r ≡ bitNumber bit) × (r ≤ 1) ⌝ }
 {
     bit as u8

@@ -107,40 +107,10 @@ fn wrong_widths() {
 
 // The original's vector A_SCALAR, whose digits at width 5 are its A_NAF.
 fn original() {
-    let bytes = [
-        0x1au8,
-        0x0e,
-        0x97,
-        0x8a,
-        0x90,
-        0xf6,
-        0x62,
-        0x2d,
-        0x37,
-        0x47,
-        0x02,
-        0x3f,
-        0x8a,
-        0xd8,
-        0x26,
-        0x4d,
-        0xa7,
-        0x58,
-        0xaa,
-        0x1b,
-        0x88,
-        0xe0,
-        0x40,
-        0xd1,
-        0x58,
-        0x9e,
-        0x7b,
-        0x7f,
-        0x23,
-        0x76,
-        0xef,
-        0x09,
-    ];
+    let taken = scalar::slice::from_slice(
+        b"\x1a\x0e\x97\x8a\x90\xf6\x62\x2d\x37\x47\x02\x3f\x8a\xd8\x26\x4d\xa7\x58\xaa\x1b\x88\xe0\x40\xd1\x58\x9e\x7b\x7f\x23\x76\xef\x09",
+    );
+    let bytes = taken.scalar.bytes;
     recode(b"A_SCALAR", bytes, 5);
 }
 

@@ -67,6 +67,13 @@ fn wipe(n: usize) {
     wipe_part(&mut buf, n);
 }
 
+// A call's name and its two lengths.
+fn begin(name: &[u8], a: usize, b: usize) {
+    show::text(name);
+    show::number(a as u64);
+    show::number(b as u64);
+}
+
 // The first n bytes of a source read into the first k words of a destination.
 fn read_part(src: &[u8], n: usize, dst: &mut [u64], k: usize) {
     if n > src.len() {
@@ -75,11 +82,8 @@ fn read_part(src: &[u8], n: usize, dst: &mut [u64], k: usize) {
     if k > dst.len() {
         return;
     }
-    show::text(b"read");
-    show::number(n as u64);
-    show::number(k as u64);
-    let v = words::read_le_u64_into(&src[..n], &mut dst[..k]);
-    show::verdict(v);
+    begin(b"read", n, k);
+    show::verdict(words::read_le_u64_into(&src[..n], &mut dst[..k]));
     show::words(dst);
     show::end();
 }
@@ -132,11 +136,8 @@ fn write_part(src: &[u64], k: usize, dst: &mut [u8], n: usize) {
     if n > dst.len() {
         return;
     }
-    show::text(b"write");
-    show::number(k as u64);
-    show::number(n as u64);
-    let v = words::write_le_u64_into(&src[..k], &mut dst[..n]);
-    show::verdict(v);
+    begin(b"write", k, n);
+    show::verdict(words::write_le_u64_into(&src[..k], &mut dst[..n]));
     show::bytes(dst);
     show::end();
 }
@@ -153,37 +154,23 @@ fn write_words(k: usize, n: usize) {
     write_part(&src, k, &mut dst, n);
 }
 
-// The two cases of the original's own test of `read_le_u64_into`.
+// A source of the original's own test of `read_le_u64_into`, and its words.
+fn original_words(src: &[u8], dst: &mut [u64]) {
+    show::text(b"original");
+    show::verdict(words::read_le_u64_into(src, dst));
+    show::words(dst);
+    show::end();
+}
+
+// Both of its cases.
 fn original() {
-    let one = [0xFEu8, 0xEF, 0x10, 0x01, 0x1F, 0xF1, 0x0F, 0xF0];
-    let mut w = [0u64; 1];
-    show::text(b"original");
-    show::verdict(words::read_le_u64_into(&one, &mut w));
-    show::words(&w);
-    show::end();
-    let two = [
-        0xFEu8,
-        0xEF,
-        0x10,
-        0x01,
-        0x1F,
-        0xF1,
-        0x0F,
-        0xF0,
-        0x12,
-        0x34,
-        0x56,
-        0x78,
-        0x9A,
-        0xBC,
-        0xDE,
-        0xF0,
-    ];
-    let mut x = [0u64; 2];
-    show::text(b"original");
-    show::verdict(words::read_le_u64_into(&two, &mut x));
-    show::words(&x);
-    show::end();
+    let mut one = [0u64; 1];
+    original_words(b"\xFE\xEF\x10\x01\x1F\xF1\x0F\xF0", &mut one);
+    let mut two = [0u64; 2];
+    original_words(
+        b"\xFE\xEF\x10\x01\x1F\xF1\x0F\xF0\x12\x34\x56\x78\x9A\xBC\xDE\xF0",
+        &mut two,
+    );
 }
 
 fn choices() {

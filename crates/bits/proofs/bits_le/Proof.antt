@@ -24,21 +24,6 @@ abbrev μ-loop : tie.MeasureT-loop
 loop-holds : tie.Need-loop-holds Inv-loop μ-loop
 loop-holds c = (search needs, search needs, below-none _)
 
-array-read-bit-of : tie.Need-array-read-bit-of Inv-loop μ-loop
-array-read-bit-of c = search needs
-
-bit-of-requires : tie.Need-bit-of-requires Inv-loop μ-loop
-bit-of-requires c κs = search needs
-
-array-write-bits : tie.Need-array-write-bits Inv-loop μ-loop
-array-write-bits c = search needs
-
-add-at : tie.Need-add-at Inv-loop μ-loop
-add-at c = search needs
-
-loop-less : tie.Need-loop-less Inv-loop μ-loop
-loop-less c = search needs
-
 loop-again : tie.Need-loop-again Inv-loop μ-loop
 loop-again c =
     let loop = c .before .before .loop in
@@ -53,14 +38,5 @@ returns c = record { long = c .before .loop .inv .1; each = λ i l. c .before .l
 pub bits-le-spec : {M : Type 1} → statement M
 bits-le-spec =
     tie.close
-    (tie.spec
-    Inv-loop
-    μ-loop
-    loop-holds
-    array-read-bit-of
-    bit-of-requires
-    array-write-bits
-    add-at
-    loop-less
-    loop-again
-    returns)
+    (tie.spec Inv-loop μ-loop loop-holds (λ c. search needs) (λ c κs. search needs) (λ c. search needs) (λ c. search needs)
+    (λ c. search needs) loop-again returns)

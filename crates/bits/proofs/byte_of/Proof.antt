@@ -18,30 +18,15 @@ abbrev μ-loop : tie.MeasureT-loop
 loop-holds : tie.Need-loop-holds Inv-loop μ-loop
 loop-holds c = (search needs, eight-none (c .before .args .bits .now) (c .before .args .at) (c .before .pre))
 
-sub-left : tie.Need-sub-left Inv-loop μ-loop
-sub-left c = search needs
-
 mul-byte : tie.Need-mul-byte Inv-loop μ-loop
 mul-byte c =
     let a = c .before .before .before .args in
     omega (arith, eight-small (a .bits .now) (a .at) (c .before .before .before .pre) (c .before .loop .left) (omega arith))
 
-add-one-if : tie.Need-add-one-if Inv-loop μ-loop
-add-one-if c = search needs
-
-shared-slice-read-one-if : tie.Need-shared-slice-read-one-if Inv-loop μ-loop
-shared-slice-read-one-if c = search needs
-
-one-if-requires : tie.Need-one-if-requires Inv-loop μ-loop
-one-if-requires c κs = search needs
-
 add-byte : tie.Need-add-byte Inv-loop μ-loop
 add-byte c =
     let a = c .before .before .before .before .before .args in
     omega (arith, eight-small (a .bits .now) (a .at) (c .before .before .before .before .before .pre) (c .before .before .before .loop .left) (omega arith))
-
-loop-less : tie.Need-loop-less Inv-loop μ-loop
-loop-less c = search needs
 
 loop-again : tie.Need-loop-again Inv-loop μ-loop
 loop-again c =
@@ -57,16 +42,5 @@ returns c =
 pub byte-of-spec : {M : Type 1} → statement M
 byte-of-spec =
     tie.close
-    (tie.spec
-    Inv-loop
-    μ-loop
-    loop-holds
-    sub-left
-    mul-byte
-    add-one-if
-    shared-slice-read-one-if
-    one-if-requires
-    add-byte
-    loop-less
-    loop-again
-    returns)
+    (tie.spec Inv-loop μ-loop loop-holds (λ c. search needs) mul-byte (λ c. search needs) (λ c. search needs)
+    (λ c κs. search needs) add-byte (λ c. search needs) loop-again returns)

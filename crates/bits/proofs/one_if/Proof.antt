@@ -9,9 +9,6 @@ use Rattle.bits.specs.BitNumber.{bitNumber}
 use Rattle.bits.proofs.one_if.Statement.{statement}
 use Rattle.bits.proofs.one_if.Tie as tie
 
-cast-result : tie.Need-cast-result
-cast-result c = search needs
-
 cast : (b : Bool) → (boolByte b ≡ bitNumber b) × (boolByte b ≤ 1)
 cast false = (refl, lit≤ tt)
 cast true = (refl, lit≤ tt)
@@ -20,4 +17,4 @@ returns : tie.Need-returns
 returns c = cast (c .args .bit)
 
 pub one-if-spec : {M : Type 1} → statement M
-one-if-spec = tie.close (tie.spec cast-result returns)
+one-if-spec = tie.close (tie.spec (λ c. search needs) returns)

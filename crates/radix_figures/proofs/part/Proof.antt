@@ -6,17 +6,8 @@ use borrow.Author.Needs.{needs}
 use Rattle.radix_figures.proofs.part.Statement.{statement}
 use Rattle.radix_figures.proofs.part.Tie as tie
 
-returns : tie.Need-returns
-returns c = search needs
-
 slice-aggregate-read-back : tie.Need-slice-aggregate-read-back
 slice-aggregate-read-back c = sym (length-take-le _ _ (omega arith))
 
-read-back-requires : tie.Need-read-back-requires
-read-back-requires c κs = search needs
-
-returns-2 : tie.Need-returns-2
-returns-2 c = search needs
-
 pub part-spec : {M : Type 1} → statement M
-part-spec = tie.close (tie.spec returns slice-aggregate-read-back read-back-requires returns-2)
+part-spec = tie.close (tie.spec (λ c. search needs) slice-aggregate-read-back (λ c κs. search needs) (λ c. search needs))

@@ -7,71 +7,23 @@ use Rattle.numbers.proofs.Stores.{in-stored, before-stored}
 use Rattle.words.proofs.put.Statement.{statement}
 use Rattle.words.proofs.put.Tie as tie
 
-cast-dst : tie.Need-cast-dst
-cast-dst c = omega arith
-
-slice-write-dst : tie.Need-slice-write-dst
-slice-write-dst c = omega arith
-
-cast-dst-2 : tie.Need-cast-dst-2
-cast-dst-2 c = omega arith
-
-add-dst : tie.Need-add-dst
-add-dst c = omega arith
-
 slice-write-dst-2 : tie.Need-slice-write-dst-2
 slice-write-dst-2 c = simp length-set (omega arith)
-
-cast-dst-3 : tie.Need-cast-dst-3
-cast-dst-3 c = omega arith
-
-add-dst-2 : tie.Need-add-dst-2
-add-dst-2 c = omega arith
 
 slice-write-dst-3 : tie.Need-slice-write-dst-3
 slice-write-dst-3 c = simp length-set (omega arith)
 
-cast-dst-4 : tie.Need-cast-dst-4
-cast-dst-4 c = omega arith
-
-add-dst-3 : tie.Need-add-dst-3
-add-dst-3 c = omega arith
-
 slice-write-dst-4 : tie.Need-slice-write-dst-4
 slice-write-dst-4 c = simp length-set (omega arith)
-
-cast-dst-5 : tie.Need-cast-dst-5
-cast-dst-5 c = omega arith
-
-add-dst-4 : tie.Need-add-dst-4
-add-dst-4 c = omega arith
 
 slice-write-dst-5 : tie.Need-slice-write-dst-5
 slice-write-dst-5 c = simp length-set (omega arith)
 
-cast-dst-6 : tie.Need-cast-dst-6
-cast-dst-6 c = omega arith
-
-add-dst-5 : tie.Need-add-dst-5
-add-dst-5 c = omega arith
-
 slice-write-dst-6 : tie.Need-slice-write-dst-6
 slice-write-dst-6 c = simp length-set (omega arith)
 
-cast-dst-7 : tie.Need-cast-dst-7
-cast-dst-7 c = omega arith
-
-add-dst-6 : tie.Need-add-dst-6
-add-dst-6 c = omega arith
-
 slice-write-dst-7 : tie.Need-slice-write-dst-7
 slice-write-dst-7 c = simp length-set (omega arith)
-
-cast-dst-8 : tie.Need-cast-dst-8
-cast-dst-8 c = omega arith
-
-add-dst-7 : tie.Need-add-dst-7
-add-dst-7 c = omega arith
 
 slice-write-dst-8 : tie.Need-slice-write-dst-8
 slice-write-dst-8 c = simp length-set (omega arith)
@@ -90,29 +42,7 @@ returns c =
 pub put-spec : {M : Type 1} → statement M
 put-spec =
     tie.close
-    (tie.spec
-    cast-dst
-    slice-write-dst
-    cast-dst-2
-    add-dst
-    slice-write-dst-2
-    cast-dst-3
-    add-dst-2
-    slice-write-dst-3
-    cast-dst-4
-    add-dst-3
-    slice-write-dst-4
-    cast-dst-5
-    add-dst-4
-    slice-write-dst-5
-    cast-dst-6
-    add-dst-5
-    slice-write-dst-6
-    cast-dst-7
-    add-dst-6
-    slice-write-dst-7
-    cast-dst-8
-    add-dst-7
-    slice-write-dst-8
-    same-length
-    returns)
+    (tie.spec (λ c. omega arith) (λ c. omega arith) (λ c. omega arith) (λ c. omega arith) slice-write-dst-2 (λ c. omega arith)
+    (λ c. omega arith) slice-write-dst-3 (λ c. omega arith) (λ c. omega arith) slice-write-dst-4 (λ c. omega arith)
+    (λ c. omega arith) slice-write-dst-5 (λ c. omega arith) (λ c. omega arith) slice-write-dst-6 (λ c. omega arith)
+    (λ c. omega arith) slice-write-dst-7 (λ c. omega arith) (λ c. omega arith) slice-write-dst-8 same-length returns)
