@@ -1,192 +1,194 @@
+#![tactic(auto)]
 // Runs form R on document 01's figures, the refusals and both sides of each edge, and prints what it answers.
 // The file `stdout` beside src/ was worked out by tools/expect-radix-figures, in Python integers, from the rules and without this library.
 use scalar::Scalar;
+use std::io;
 
 // A reply of a recoder, and its digits tested and read back.
-fn reply(r: radix::recode::Radix, w: usize) {
+fn reply(rt: &impl Print, r: radix::recode::Radix, w: usize) -> io::Result<()> {
     let v = r.verdict;
-    show::verdict(v);
-    show::number(r.count as u64);
-    show::number(r.additions as u64);
+    show::verdict(rt, v)?;
+    show::number(rt, r.count as u64)?;
+    show::number(rt, r.additions as u64)?;
     let d = r.digits;
-    show::string(&d);
-    show::text(b"read");
-    read_back(&d, w);
+    show::string(rt, &d)?;
+    show::text(rt, b"read")?;
+    read_back(rt, &d, w)
 }
 
 // A scalar recoded at a width.
-fn recode(name: &[u8], bytes: [u8; 32], w: usize) {
-    show::text(name);
-    show::number(w as u64);
-    reply(radix::recode::as_radix_2w(Scalar { bytes }, w), w);
+fn recode(rt: &impl Print, name: &[u8], bytes: [u8; 32], w: usize) -> io::Result<()> {
+    show::text(rt, name)?;
+    show::number(rt, w as u64)?;
+    reply(rt, radix::recode::as_radix_2w(Scalar { bytes }, w), w)
 }
 
 // A digit string tested and read at a width.
-fn read_back(digits: &[i8], w: usize) {
-    show::verdict(radix_read::test(digits, w));
+fn read_back(rt: &impl Print, digits: &[i8], w: usize) -> io::Result<()> {
+    show::verdict(rt, radix_read::test(digits, w))?;
     let r = radix_read::read(digits, w);
     let v = r.verdict;
-    show::verdict(v);
+    show::verdict(rt, v)?;
     let s = r.scalar;
     let b = s.bytes;
-    show::bytes(&b);
-    show::end();
+    show::bytes(rt, &b)?;
+    show::end(rt)
 }
 
 // The first n of 65 digits, all 0 but two.
-fn part(all: &[i8], n: usize, w: usize) {
+fn part(rt: &impl Print, all: &[i8], n: usize, w: usize) -> io::Result<()> {
     if n > all.len() {
-        return;
+        return Ok(());
     }
-    read_back(&all[..n], w);
+    read_back(rt, &all[..n], w)
 }
 
-fn string(n: usize, w: usize, i: usize, d: i8, j: usize, e: i8) {
+fn string(rt: &impl Print, n: usize, w: usize, i: usize, d: i8, j: usize, e: i8) -> io::Result<()> {
     if i > 64 {
-        return;
+        return Ok(());
     }
     if j > 64 {
-        return;
+        return Ok(());
     }
     let mut all = [0i8; 65];
     all[i] = d;
     all[j] = e;
-    show::text(b"string");
-    show::number(n as u64);
-    show::number(w as u64);
-    part(&all, n, w);
+    show::text(rt, b"string")?;
+    show::number(rt, n as u64)?;
+    show::number(rt, w as u64)?;
+    part(rt, &all, n, w)
 }
 
 // A scalar with one byte set.
-fn small(name: &[u8], b: u8, w: usize) {
+fn small(rt: &impl Print, name: &[u8], b: u8, w: usize) -> io::Result<()> {
     let mut bytes = [0u8; 32];
     bytes[0] = b;
-    recode(name, bytes, w);
+    recode(rt, name, bytes, w)
 }
 
-fn small_figures() {
-    small(b"0", 0, 4);
-    small(b"7", 7, 4);
-    small(b"8", 8, 4);
-    small(b"15", 15, 5);
-    small(b"16", 16, 5);
-    small(b"31", 31, 6);
-    small(b"32", 32, 6);
-    small(b"63", 63, 7);
-    small(b"64", 64, 7);
-    small(b"127", 127, 8);
-    small(b"128", 128, 8);
-    small(b"255", 255, 8);
+fn small_figures(rt: &impl Print) -> io::Result<()> {
+    small(rt, b"0", 0, 4)?;
+    small(rt, b"7", 7, 4)?;
+    small(rt, b"8", 8, 4)?;
+    small(rt, b"15", 15, 5)?;
+    small(rt, b"16", 16, 5)?;
+    small(rt, b"31", 31, 6)?;
+    small(rt, b"32", 32, 6)?;
+    small(rt, b"63", 63, 7)?;
+    small(rt, b"64", 64, 7)?;
+    small(rt, b"127", 127, 8)?;
+    small(rt, b"128", 128, 8)?;
+    small(rt, b"255", 255, 8)
 }
 
 // The edges of the two ranges at one width.
-fn edges(w: usize) {
+fn edges(rt: &impl Print, w: usize) -> io::Result<()> {
     let ones = [255u8; 32];
     let mut below = ones;
     below[31] = 127;
-    recode(b"2^255-1", below, w);
+    recode(rt, b"2^255-1", below, w)?;
     let mut half = [0u8; 32];
     half[31] = 128;
-    recode(b"2^255", half, w);
-    recode(b"2^256-1", ones, w);
+    recode(rt, b"2^255", half, w)?;
+    recode(rt, b"2^256-1", ones, w)
 }
 
-fn every_width() {
-    edges(4);
-    edges(5);
-    edges(6);
-    edges(7);
-    edges(8);
+fn every_width(rt: &impl Print) -> io::Result<()> {
+    edges(rt, 4)?;
+    edges(rt, 5)?;
+    edges(rt, 6)?;
+    edges(rt, 7)?;
+    edges(rt, 8)
 }
 
-fn wrong_widths() {
-    small(b"7", 7, 0);
-    edges(3);
-    edges(9);
-    small(b"7", 7, 0x1_0000_0004);
-    small(b"7", 7, 0xFFFF_FFFF_FFFF_FFFF);
+fn wrong_widths(rt: &impl Print) -> io::Result<()> {
+    small(rt, b"7", 7, 0)?;
+    edges(rt, 3)?;
+    edges(rt, 9)?;
+    small(rt, b"7", 7, 0x1_0000_0004)?;
+    small(rt, b"7", 7, 0xFFFF_FFFF_FFFF_FFFF)
 }
 
 // The entry of its own for radix 16.
-fn sixteen() {
+fn sixteen(rt: &impl Print) -> io::Result<()> {
     let ones = [255u8; 32];
     let mut below = ones;
     below[31] = 127;
-    show::text(b"radix16");
-    reply(radix::recode::as_radix_16(Scalar { bytes: below }), 4);
-    show::text(b"radix16");
-    reply(radix::recode::as_radix_16(Scalar { bytes: ones }), 4);
+    show::text(rt, b"radix16")?;
+    reply(rt, radix::recode::as_radix_16(Scalar { bytes: below }), 4)?;
+    show::text(rt, b"radix16")?;
+    reply(rt, radix::recode::as_radix_16(Scalar { bytes: ones }), 4)
 }
 
 // A width's row.
-fn row(w: usize) {
-    show::text(b"shape");
-    show::number(w as u64);
-    let r = shape::radix::shape(w);
+fn row(rt: &impl Print, w: usize) -> io::Result<()> {
+    show::text(rt, b"shape")?;
+    show::number(rt, w as u64)?;
+    let r = shape::shape(w);
     let v = r.verdict;
-    show::verdict(v);
-    show::number(r.digits as u64);
-    show::number(r.top as u64);
-    show::number(r.bits as u64);
-    show::end();
+    show::verdict(rt, v)?;
+    show::number(rt, r.digits as u64)?;
+    show::number(rt, r.top as u64)?;
+    show::number(rt, r.bits as u64)?;
+    show::end(rt)
 }
 
-fn rows() {
-    row(0);
-    row(3);
-    row(4);
-    row(5);
-    row(6);
-    row(7);
-    row(8);
-    row(9);
-    row(0x1_0000_0008);
+fn rows(rt: &impl Print) -> io::Result<()> {
+    row(rt, 0)?;
+    row(rt, 3)?;
+    row(rt, 4)?;
+    row(rt, 5)?;
+    row(rt, 6)?;
+    row(rt, 7)?;
+    row(rt, 8)?;
+    row(rt, 9)?;
+    row(rt, 0x1_0000_0008)
 }
 
 // 01's figures on strings, and their neighbours.
-fn strings() {
-    string(64, 5, 0, 16, 1, 0);
-    string(64, 5, 0, 15, 1, 0);
-    string(64, 5, 0, -16, 1, 1);
-    string(64, 5, 0, -17, 1, 1);
-    string(64, 5, 51, 3, 0, 0);
-    string(64, 5, 52, 1, 0, 0);
-    string(64, 5, 51, 2, 0, 0);
-    string(64, 5, 0, -1, 51, 2);
-    string(64, 5, 51, 1, 0, 0);
-    string(64, 5, 51, -1, 0, 0);
-    string(64, 5, 0, -1, 0, -1);
-    string(64, 4, 63, 8, 0, 0);
-    string(64, 4, 63, 8, 0, -1);
-    string(64, 4, 63, 9, 0, -1);
-    string(64, 4, 62, -8, 63, 8);
-    string(64, 8, 32, 1, 0, 0);
-    string(64, 8, 32, 1, 31, -128);
-    string(64, 8, 32, 2, 31, -128);
-    string(64, 8, 33, 1, 0, 0);
-    string(64, 8, 63, -1, 32, 1);
-    string(64, 6, 42, 16, 0, -1);
-    string(64, 6, 42, 16, 0, 0);
-    string(64, 7, 36, 16, 0, -1);
-    string(64, 7, 36, 17, 0, -1);
-    string(64, 7, 0, 64, 52, 1);
+fn strings(rt: &impl Print) -> io::Result<()> {
+    string(rt, 64, 5, 0, 16, 1, 0)?;
+    string(rt, 64, 5, 0, 15, 1, 0)?;
+    string(rt, 64, 5, 0, -16, 1, 1)?;
+    string(rt, 64, 5, 0, -17, 1, 1)?;
+    string(rt, 64, 5, 51, 3, 0, 0)?;
+    string(rt, 64, 5, 52, 1, 0, 0)?;
+    string(rt, 64, 5, 51, 2, 0, 0)?;
+    string(rt, 64, 5, 0, -1, 51, 2)?;
+    string(rt, 64, 5, 51, 1, 0, 0)?;
+    string(rt, 64, 5, 51, -1, 0, 0)?;
+    string(rt, 64, 5, 0, -1, 0, -1)?;
+    string(rt, 64, 4, 63, 8, 0, 0)?;
+    string(rt, 64, 4, 63, 8, 0, -1)?;
+    string(rt, 64, 4, 63, 9, 0, -1)?;
+    string(rt, 64, 4, 62, -8, 63, 8)?;
+    string(rt, 64, 8, 32, 1, 0, 0)?;
+    string(rt, 64, 8, 32, 1, 31, -128)?;
+    string(rt, 64, 8, 32, 2, 31, -128)?;
+    string(rt, 64, 8, 33, 1, 0, 0)?;
+    string(rt, 64, 8, 63, -1, 32, 1)?;
+    string(rt, 64, 6, 42, 16, 0, -1)?;
+    string(rt, 64, 6, 42, 16, 0, 0)?;
+    string(rt, 64, 7, 36, 16, 0, -1)?;
+    string(rt, 64, 7, 36, 17, 0, -1)?;
+    string(rt, 64, 7, 0, 64, 52, 1)
 }
 
-fn wrong_lengths() {
-    string(0, 5, 0, 0, 0, 0);
-    string(63, 5, 0, 1, 0, 1);
-    string(65, 5, 0, 1, 0, 1);
-    string(64, 3, 0, 1, 0, 1);
-    string(64, 9, 0, 1, 0, 1);
-    string(63, 9, 0, 1, 0, 1);
+fn wrong_lengths(rt: &impl Print) -> io::Result<()> {
+    string(rt, 0, 5, 0, 0, 0, 0)?;
+    string(rt, 63, 5, 0, 1, 0, 1)?;
+    string(rt, 65, 5, 0, 1, 0, 1)?;
+    string(rt, 64, 3, 0, 1, 0, 1)?;
+    string(rt, 64, 9, 0, 1, 0, 1)?;
+    string(rt, 63, 9, 0, 1, 0, 1)
 }
 
-fn main() {
-    small_figures();
-    every_width();
-    wrong_widths();
-    sixteen();
-    rows();
-    strings();
-    wrong_lengths();
+fn main(rt: HostRuntime) -> io::Result<()> {
+    small_figures(&rt)?;
+    every_width(&rt)?;
+    wrong_widths(&rt)?;
+    sixteen(&rt)?;
+    rows(&rt)?;
+    strings(&rt)?;
+    wrong_lengths(&rt)
 }

@@ -1,98 +1,100 @@
+#![tactic(auto)]
 // How the test programs print: words, numbers, bytes and verdicts, a piece at a time. Nothing here is part of the library.
-use libc::STDOUT_FILENO;
+// What a function answers is whether the piece could be written.
 use rules::Verdict;
+use std::io;
 
 // A piece of text, then a space.
-pub fn text(t: &[u8]) {
-    io::write_all(STDOUT_FILENO, t);
-    io::write_all(STDOUT_FILENO, b" ");
+pub fn text(rt: &impl Print, t: &[u8]) -> io::Result<()> {
+    rt.write_all(t)?;
+    rt.write_all(b" ")
 }
 
 // The end of a line.
-pub fn end() {
-    io::write_all(STDOUT_FILENO, b"\n");
+pub fn end(rt: &impl Print) -> io::Result<()> {
+    rt.write_all(b"\n")
 }
 
 // A number in decimal, then a space.
-pub fn number(n: u64) {
-    io::print_decimal(STDOUT_FILENO, n);
-    io::write_all(STDOUT_FILENO, b" ");
+pub fn number(rt: &impl Print, n: u64) -> io::Result<()> {
+    print!(rt; "{n} ")
 }
 
 // A verdict: its number and its position.
-pub fn verdict(v: Verdict) {
-    number(v.number() as u64);
-    number(v.position() as u64);
+pub fn verdict(rt: &impl Print, v: Verdict) -> io::Result<()> {
+    number(rt, v.number() as u64)?;
+    number(rt, v.position() as u64)
 }
 
 // A bool as 0 or 1, and nothing after it.
-pub fn bit(b: bool) {
+pub fn bit(rt: &impl Print, b: bool) -> io::Result<()> {
     if b {
-        io::write_all(STDOUT_FILENO, b"1");
+        rt.write_all(b"1")
     } else {
-        io::write_all(STDOUT_FILENO, b"0");
+        rt.write_all(b"0")
     }
 }
 
 // Bits as 0 and 1, the lowest first, then a space.
-pub fn bits(b: &[bool]) {
+pub fn bits(rt: &impl Print, b: &[bool]) -> io::Result<()> {
     let mut i: usize = 0;
     while i < b.len() {
-        bit(b[i]);
+        bit(rt, b[i])?;
         i += 1;
     }
-    text(b"");
+    text(rt, b"")
 }
 
 // One byte as two hexadecimal digits.
-fn byte(b: u8) {
-    io::print_hex(STDOUT_FILENO, b as u64, 2);
+fn byte(rt: &impl Print, b: u8) -> io::Result<()> {
+    print!(rt; "{b:02x}")
 }
 
 // Bytes in hexadecimal, the lowest first, then a space.
-pub fn bytes(b: &[u8]) {
+pub fn bytes(rt: &impl Print, b: &[u8]) -> io::Result<()> {
     let mut i: usize = 0;
     while i < b.len() {
-        byte(b[i]);
+        byte(rt, b[i])?;
         i += 1;
     }
-    io::write_all(STDOUT_FILENO, b" ");
+    rt.write_all(b" ")
 }
 
 // One word as sixteen hexadecimal digits, then a space.
-fn word(w: u64) {
-    io::print_hex(STDOUT_FILENO, w, 16);
-    io::write_all(STDOUT_FILENO, b" ");
+fn word(rt: &impl Print, w: u64) -> io::Result<()> {
+    print!(rt; "{w:016x} ")
 }
 
 // Words in hexadecimal.
-pub fn words(w: &[u64]) {
+pub fn words(rt: &impl Print, w: &[u64]) -> io::Result<()> {
     let mut i: usize = 0;
     while i < w.len() {
-        word(w[i]);
+        word(rt, w[i])?;
         i += 1;
     }
+    Ok(())
 }
 
 // A digit that is not 0: its index, a colon, the digit, and a space.
-fn entry(i: usize, d: i8) {
+fn entry(rt: &impl Print, i: usize, d: i8) -> io::Result<()> {
     if d == 0 {
-        return;
+        return Ok(());
     }
-    io::print_decimal(STDOUT_FILENO, i as u64);
+    print!(rt; "{i}")?;
     if d < 0 {
-        io::write_all(STDOUT_FILENO, b":-");
+        rt.write_all(b":-")?;
     } else {
-        io::write_all(STDOUT_FILENO, b":");
+        rt.write_all(b":")?;
     }
-    number(digits::magnitude::magnitude(d) as u64);
+    number(rt, digits::magnitude::magnitude(d) as u64)
 }
 
 // The digits that are not 0, from the lowest index.
-pub fn string(ds: &[i8]) {
+pub fn string(rt: &impl Print, ds: &[i8]) -> io::Result<()> {
     let mut i: usize = 0;
     while i < ds.len() {
-        entry(i, ds[i]);
+        entry(rt, i, ds[i])?;
         i += 1;
     }
+    Ok(())
 }
