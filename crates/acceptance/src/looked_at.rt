@@ -6,7 +6,7 @@ use digits::magnitude::{magnitude, offset};
 use rules::Verdict;
 
 // Two scalars' digits compared, where the form takes both.
-#[derive(Drop)]
+#[derive(Clone, Copy)]
 pub struct Same {
     pub verdict: Verdict,
     pub same: bool,

@@ -67,7 +67,7 @@ pub fn passes(digits: &[i8], w: usize) -> bool
 }
 
 // A recoder's digits and their count, and how many are not 0 of those that the count reaches.
-#[derive(Drop)]
+#[derive(Clone, Copy)]
 pub struct Looked {
     pub verdict: Verdict,
     pub digits: [i8; 64],

@@ -1,3 +1,4 @@
+#![tactic(auto)]
 // The 256 bits of a scalar, and back.
 ghost use Rattle.std.specs.Prelude.{◌≡◌, map, ◌+◌, ◌<◌, ◌≤◌, length, take, drop};
 ghost use Rattle.numbers.specs.Positional.{positional};

@@ -1,3 +1,4 @@
+#![tactic(auto)]
 // The calls of form N.
 ghost use Rattle.rules.specs.Forms.{card_n};
 ghost use Rattle.calls.specs.Forms.{CardRecode, CardTest, CardRead};

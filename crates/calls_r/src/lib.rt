@@ -1,3 +1,4 @@
+#![tactic(auto)]
 // The calls of form R.
 ghost use Rattle.rules.specs.Forms.{card_r};
 ghost use Rattle.calls.specs.Forms.{CardRecode, CardTest, CardRead};

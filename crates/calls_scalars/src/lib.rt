@@ -1,3 +1,4 @@
+#![tactic(auto)]
 // The calls on whole scalars.
 ghost use Rattle.calls_scalars.specs.Scalars.{CardFromBits, CardSelect, CardIsOdd, CardZeroize};
 

@@ -1,3 +1,4 @@
+#![tactic(auto)]
 // The C interface, a static library: each exported function is one call, and here is what it promises. It returns its verdict's number
 // and 256 times its position, and 0 is done. Every length is tried before anything else, and a refused call writes nothing.
 ghost use Rattle.rules.specs.Forms.{card_n, card_r};
@@ -15,10 +16,10 @@ pub extern "C" fn card_from_bits(bytes: &[u8], out: &mut [u8]) -> u64
 }
 
 #[unsafe(no_mangle)]
-pub extern "C" fn card_select(a: &[u8], b: &[u8], choice: u64, out: &mut [u8]) -> u64
+pub extern "C" fn card_select(a: &[u8], b: &[u8], choice: u32, out: &mut [u8]) -> u64
     ensures { CardSelect a.now b.now choice out.old out.new result }
 {
-    calls_scalars::select(a, b, choice, out)
+    calls_scalars::select(a, b, choice as u64, out)
 }
 
 #[unsafe(no_mangle)]

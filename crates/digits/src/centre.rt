@@ -4,7 +4,7 @@ ghost use Rattle.std.proofs.Math.IntN.{sub_ℕ};
 ghost use Rattle.numbers.specs.Centred.{centred, carried};
 
 // A digit, and what it carries to the next. The digit is wide enough for every window: who stores it narrows it.
-#[derive(Drop)]
+#[derive(Clone, Copy)]
 pub struct Centred {
     pub digit: i64,
     pub carry: u32,

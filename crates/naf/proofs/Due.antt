@@ -1,19 +1,24 @@
--- Which verdict is due at a width of N's, by byte 31. Assumes nothing.
+-- Which verdict is due, by the width and byte 31. Assumes nothing.
 use mathlib.Core.Path.{◌≡◌}
 use mathlib.Core.List.{List}
 use Prim.Native.Nat.{ℕ, ◌≤◌, ◌<◌}
 use borrow.Author.Tests.{le-leb, lt-leb}
-use lib.Dec.{T}
+use lib.Dec.{not_T}
 use lib.ListN.{get_or}
-use Rattle.rules.specs.declared.Verdict.TheVariants.{Done, TooWide}
+use Rattle.rules.specs.declared.Verdict.TheVariants.{Done, WrongWidth, TooWide}
 use Rattle.rules.specs.Widths.{width_n}
 use Rattle.rules.specs.Forms.{card_n}
 use Rattle.rules.specs.Promises.{due}
 use Rattle.rules.proofs.Due.{due-exactly}
+use Rattle.rules.proofs.Table.{FromTo, width-between}
 
-module _ (bytes : List ℕ) (w : ℕ) (t : T (width_n 8 w)) where
-  pub due-too-wide : 127 < get_or bytes 31 0 → due (card_n w) bytes ≡ TooWide
-  due-too-wide h = (due-exactly (card_n w) bytes TooWide).1 (t, rw (lt-leb (get_or bytes 31 0) 127 h) tt)
+module _ (bytes : List ℕ) (w : ℕ) where
+  pub due-wrong-width : (FromTo 2 8 w → ⊥) → due (card_n w) bytes ≡ WrongWidth
+  due-wrong-width f = (due-exactly (card_n w) bytes WrongWidth).1 (not_T (width_n 8 w) (λ t. f (width-between 2 8 w t)))
 
-  pub due-done : get_or bytes 31 0 ≤ 127 → due (card_n w) bytes ≡ Done
-  due-done h = (due-exactly (card_n w) bytes Done).1 (t, rw (le-leb (get_or bytes 31 0) 127 h) tt)
+  module _ (l : 2 ≤ w) (m : w ≤ 8) where
+    pub due-too-wide : 127 < get_or bytes 31 0 → due (card_n w) bytes ≡ TooWide
+    due-too-wide h = (due-exactly (card_n w) bytes TooWide).1 (rw (le-leb 2 w l, le-leb w 8 m) tt, rw (lt-leb (get_or bytes 31 0) 127 h) tt)
+
+    pub due-done : get_or bytes 31 0 ≤ 127 → due (card_n w) bytes ≡ Done
+    due-done h = (due-exactly (card_n w) bytes Done).1 (rw (le-leb 2 w l, le-leb w 8 m) tt, rw (le-leb (get_or bytes 31 0) 127 h) tt)

@@ -1,2 +1,3 @@
+#![tactic(auto)]
 // Form N: scalars as non-adjacent digits.
 pub mod recode;

@@ -9,11 +9,10 @@ ghost use Rattle.naf.specs.inner.Turns.{StepN, HalfN};
 use digits::centre::centre;
 use rules::Verdict;
 use scalar::Scalar;
-use shape::naf::half_span;
 use window::window;
 
 // The digits, the lowest first; one more than the index of the highest that is not zero; and how many are not zero.
-#[derive(Drop)]
+#[derive(Clone, Copy)]
 pub struct NonAdjacent {
     pub verdict: Verdict,
     pub digits: [i8; 256],
@@ -22,7 +21,7 @@ pub struct NonAdjacent {
 }
 
 // What a turn finds at a place: whether a digit stands there, the digit, and the carry.
-#[derive(Drop)]
+#[derive(Clone, Copy)]
 struct Turn {
     odd: bool,
     digit: i8,
@@ -54,7 +53,7 @@ fn step(bytes: &[u8], at: usize, carry: u32, w: usize, half: u32) -> Turn
 // From place 0 up: one place on where no digit stands, and past the window of a digit.
 fn recode(bytes: &[u8], w: usize, half: u32) -> NonAdjacent
     requires { HalfN w half }
-    ensures verdict_value { (result.verdict ≡ Verdict.Done) × (result.count ≡ count result.digits) × (result.additions ≡ additions result.digits) }
+    ensures tallied { (result.verdict ≡ Verdict.Done) × (result.count ≡ count result.digits) × (result.additions ≡ additions result.digits) }
     ensures recoded { integer bytes.now < 2 ^ 255 → Recoded (card_n w) (integer bytes.now) result.digits }
 {
     let mut digits = [0i8; 256];
@@ -99,14 +98,15 @@ fn refused(verdict: Verdict) -> NonAdjacent
 pub fn non_adjacent_form(s: Scalar, w: usize) -> NonAdjacent
     ensures { Recodes (card_n w) s.bytes result.verdict result.digits result.count result.additions }
 {
-    let span = half_span(w);
-    let allowed = span.verdict;
-    if allowed.number() != 0 {
-        return refused(allowed);
+    if w < 2 {
+        return refused(Verdict::WrongWidth);
+    }
+    if 8 < w {
+        return refused(Verdict::WrongWidth);
     }
     let bytes = s.bytes;
     if 127 < bytes[31] {
         return refused(Verdict::TooWide);
     }
-    recode(&bytes, w, span.half)
+    recode(&bytes, w, 1 << (w - 1))
 }

@@ -1,3 +1,4 @@
+#![tactic(auto)]
 // The acceptance test of N's strings, and the reader.
 ghost use Rattle.std.specs.Prelude.{◌≡◌, ◌&&◌, ℕ, ◌-◌, ◌%◌, ◌^◌, ◌≤◌, eqb, ltb, length};
 ghost use Rattle.rules.specs.Forms.{card_n};
@@ -8,7 +9,6 @@ ghost use Rattle.rules.specs.inner.Scan.{fault, held_next};
 use digits::magnitude::magnitude;
 use rules::Verdict;
 use scalar::reply::{Reply, refused};
-use shape::naf::half_span;
 use sum::read_sum;
 
 // The own rule of a digit that is not zero, by its absolute value.
@@ -50,10 +50,11 @@ fn next_held(d: i8, held: usize, gap: usize) -> usize
 }
 
 // What is wrong first, from index 0 up.
-fn first_fault(digits: &[i8], w: usize, half: u32) -> Verdict
-    requires { (2 ≤ w) × (half ≡ 2 ^ (w - 1)) }
+fn first_fault(digits: &[i8], w: usize) -> Verdict
+    requires { (2 ≤ w) × (w ≤ 8) }
     ensures { result ≡ first_fault (card_n w) digits.now 0 (length digits.now) }
 {
+    let half: u32 = 1 << (w - 1);
     let mut i: usize = 0;
     let mut held: usize = 0;
     while i < digits.len() {
@@ -75,12 +76,13 @@ pub fn read(digits: &[i8], w: usize) -> Reply
     if digits.len() != 256 {
         return refused(Verdict::WrongLength);
     }
-    let span = half_span(w);
-    let allowed = span.verdict;
-    if allowed.number() != 0 {
-        return refused(allowed);
+    if w < 2 {
+        return refused(Verdict::WrongWidth);
     }
-    let fault = first_fault(digits, w, span.half);
+    if 8 < w {
+        return refused(Verdict::WrongWidth);
+    }
+    let fault = first_fault(digits, w);
     if fault.number() != 0 {
         return refused(fault);
     }

@@ -21,10 +21,10 @@ use Rattle.rules.specs.Forms.{digit_r, within, card_r}
 use Rattle.rules.specs.Keeps.{Passes}
 use Rattle.rules.specs.Promises.{Recoded, Recodes}
 use Rattle.rules.proofs.Radix.{Between, digit_r-before}
-use Rattle.rules.proofs.Table.{row_fits, width-between, all-bits, width-held}
+use Rattle.rules.proofs.Table.{row_fits, width-between, all-bits}
 use Rattle.rules.proofs.Exactly.{lawful-card-r}
 use Rattle.rules.proofs.Promises.{recodes-determined, recoded-passes, is-the-string}
-use Rattle.shape.proofs.Rows.{top-half, top-low}
+use Rattle.shape.proofs.Rows.{width-held, top-half, top-low}
 use Rattle.shape.proofs.Front.{front-sum, past-zero}
 use Rattle.radix.proofs.Carries.{carry_into, seen, left, last_fits}
 
@@ -76,10 +76,6 @@ implies-radix-bounds w {digits} width r i = go (dec_lt (i + 1) n) (dec_lt n (i +
         let l = at_last w n (row w).top i (digit_at digits i) e (kept (omega (arith, (row_fits w width).most))) in
         omega (arith, top-half w width)
 
--- before the last digit the upper bound is strict: from -2^(w-1) to 2^(w-1) - 1
-pub implies-radix-strict : (w : ℕ) {digits : List ℤ} {x : ℕ} → T (width_r w) → Recoded (card_r w) x digits → (i : ℕ) → i + 1 < (row w).digits → Between (2 ^ (w - 1)) (digit_at digits i)
-implies-radix-strict w {digits} t r i h = digit_r-before w (row w).digits (row w).top i (digit_at digits i) h (r.keeps.digits i (omega (arith, r.long, (row_fits w t).most)))
-
 -- at width 4: from -8 to 8
 pub implies-radix-16-bounds : {digits : List ℤ} {x : ℕ} → Recoded (card_r 4) x digits → (i : ℕ) → nat_abs (digit_at digits i) ≤ 8
 implies-radix-16-bounds r i = implies-radix-bounds 4 tt r i
@@ -105,7 +101,7 @@ pub record NoCarry (w x : ℕ) : Type 0 where
 pub last-carry-zero : (w x : ℕ) → 5 ≤ w → w ≤ 7 → x < 2 ^ 256 → NoCarry w x
 unfolding carry_into
 last-carry-zero w x a b h =
-    let t = width-held 4 8 w (omega arith) (omega arith) in
+    let t = width-held w (omega arith) (omega arith) in
     let f = last-digit w x t (rw (all-bits w t (λ e. omega arith)) h) in
     let l = top-low w t a b in
     let n : (row w).digits ≡ suc ((row w).digits - 1) = omega (arith, (row_fits w t).several) in

@@ -9,11 +9,11 @@ ghost use Rattle.rules.specs.Promises.{Recoded, Recodes};
 use digits::centre::{Centred, centre};
 use rules::Verdict;
 use scalar::Scalar;
-use shape::radix::shape;
+use shape::shape;
 use window::window;
 
 // The digits and their number; R counts no additions.
-#[derive(Drop)]
+#[derive(Clone, Copy)]
 pub struct Radix {
     pub verdict: Verdict,
     pub digits: [i8; 64],
@@ -40,7 +40,7 @@ fn refused(verdict: Verdict) -> Radix
 }
 
 // The two digits of a byte, and what they carry to the next.
-#[derive(Drop)]
+#[derive(Clone, Copy)]
 struct Pair {
     low: i8,
     high: i8,
@@ -132,15 +132,16 @@ fn windows(bytes: [u8; 32], w: usize, n: usize) -> [i8; 64]
 pub fn as_radix_2w(s: Scalar, w: usize) -> Radix
     ensures { Recodes (card_r w) s.bytes result.verdict result.digits result.count result.additions }
 {
-    let row = shape(w);
-    let allowed = row.verdict;
-    if allowed.number() != 0 {
-        return refused(allowed);
+    if w < 4 {
+        return refused(Verdict::WrongWidth);
+    }
+    if 8 < w {
+        return refused(Verdict::WrongWidth);
     }
     if w == 4 {
         return as_radix_16(s);
     }
-    let n = row.digits;
+    let n = shape(w).digits;
     let bytes = s.bytes;
     reply(Verdict::Done, windows(bytes, w, n), n)
 }

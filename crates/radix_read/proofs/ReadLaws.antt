@@ -1,32 +1,34 @@
--- R's reader: what is wrong with a digit, the sum's reply, and the laws over a form, for R. Assumes nothing.
-use mathlib.Core.Path.{◌≡◌, refl, sym, ◌∙◌}
-use mathlib.Core.Bool.{Bool, true, false, cond, or-true}
+-- R's reader: what is wrong with a digit, a wrong width, the sum's reply, and the laws over a form, for R. Assumes nothing.
+use mathlib.Core.Path.{◌≡◌, refl, sym, ◌∙◌, ap}
+use mathlib.Core.Logic.{◌≢◌}
+use mathlib.Core.Bool.{Bool, true, false, not, cond, or-true}
 use mathlib.Core.List.{List}
-use Prim.Native.Nat.{ℕ, ◌*◌, ◌^◌, ◌≤◌}
+use Prim.Native.Nat.{ℕ, ◌*◌, ◌^◌}
 use native.Mathlib.Omega.{arith}
-use lib.Dec.{T, eqb, lit≤}
+use borrow.Author.Tests.{le-leb}
+use lib.Dec.{T, leb, eqb, not_T}
 use lib.ListN.{length, take}
 use lib.Seq.{length-take-le}
 use lib.IntN.{ℤ}
 use Rattle.rules.specs.declared.Verdict.{Verdict}
-use Rattle.rules.specs.declared.Verdict.TheVariants.{Done, BrokenDigit}
+use Rattle.rules.specs.declared.Verdict.TheVariants.{Done, WrongWidth, BrokenDigit}
 use Rattle.rules.specs.Integer.{Bytes}
 use Rattle.rules.specs.Digits.{is_zero, weighted}
 use Rattle.rules.specs.Widths.{width_r, row}
 use Rattle.rules.specs.Forms.{card_r, digit_r}
-use Rattle.rules.specs.Verdicts.{unless, ◌or_else◌}
+use Rattle.rules.specs.Verdicts.{number, unless, ◌or_else◌}
 use Rattle.rules.specs.Test.{first_fault, verdict}
 use Rattle.rules.specs.Refusals.{Offered}
 use Rattle.rules.specs.Promises.{Recodes, Reads}
-use Rattle.rules.proofs.Verdicts.{done-or_else, refused-or_else}
+use Rattle.rules.proofs.Verdicts.{number-zero, done-or_else, refused-or_else, unless-held, unless-failed, unless-done}
 use Rattle.rules.specs.inner.Scan.{fault, held_next}
 use Rattle.rules.proofs.FirstFault.{first-keeps}
+use Rattle.rules.proofs.Refusals.{refused-3}
 use Rattle.rules.proofs.Reading.{reads-summed, reads-determined}
 use Rattle.rules.proofs.Promises.{test-passes, round_trip, read_back}
 use Rattle.rules.proofs.Exactly.{lawful-card-r}
 use Rattle.rules.proofs.Table.{row_fits, width-between, at-widths}
-use Rattle.sum.specs.SumRead.{SumRead, end_of}
-use Rattle.sum.proofs.SumLaws.{summed-answer}
+use Rattle.sum.specs.SumRead.{SumRead, summable, end_of}
 use Rattle.shape.proofs.Front.{front-sum, past-zero}
 
 -- without a gap a digit is at fault for its own rule only
@@ -51,9 +53,20 @@ held-r w d = go (is_zero d)
     go false = refl
 
 -- every width of R has few enough bits to be added up
-pub few_bits : (w : ℕ) → T (width_r w) → w * (row w).digits ≤ 264
+pub few_bits : (w : ℕ) → T (width_r w) → T (leb (w * (row w).digits) 264)
 unfolding row
-few_bits = at-widths (λ w. w * (row w).digits ≤ 264) (lit≤ tt) (lit≤ tt) (lit≤ tt) (lit≤ tt) (lit≤ tt)
+few_bits = at-widths (λ w. T (leb (w * (row w).digits) 264)) tt tt tt tt tt
+
+-- ---- the width: the verdict of its row
+
+module _ (w : ℕ) (ds : List ℤ) (v : Verdict) (e : v ≡ unless (width_r w) WrongWidth) where
+  pub width-allowed : number v ≡ 0 → T (width_r w)
+  width-allowed z = unless-done (width_r w) WrongWidth (λ n. omega arith) (sym e ∙ number-zero v z)
+
+  pub width-refused : length ds ≡ 64 → number v ≢ 0 → verdict (card_r w) ds ≡ v
+  width-refused l n =
+      let no : T (not (width_r w)) = not_T (width_r w) (λ t. n (ap number (e ∙ unless-held (width_r w) WrongWidth t))) in
+      (refused-3 (card_r w) ds).1 (l, no) ∙ sym (e ∙ unless-failed (width_r w) WrongWidth no)
 
 -- ---- the sum
 
@@ -69,9 +82,9 @@ sum-reads ds w answer bytes o f s =
     let t = o.allowed in
     let b = width-between 4 8 w t in
     let n : length (take (row w).digits ds) ≡ (row w).digits = length-take-le (row w).digits ds (omega (arith, o.long, (row_fits w t).most)) in
-    let fits : w * length (take (row w).digits ds) ≤ 264 = rw n (few_bits w t) in
+    let fits : T (summable w (take (row w).digits ds)) = rw (le-leb 1 w (omega (arith, b.low)), le-leb w 8 b.high, n) (few_bits w t) in
     let e : weighted (2 ^ w) (take (row w).digits ds) ≡ weighted (2 ^ w) ds = front-sum (2 ^ w) (row w).digits ds (past-zero 64 w ds (first-keeps (card_r w) ds f)) in
-    reads-summed (card_r w) ds answer bytes o f (summed-answer s fits (omega (arith, b.low)) b.high ∙ rw (row-end w t, e)) (λ d. sym e ∙ s.sums d) s.zeros
+    reads-summed (card_r w) ds answer bytes o f (s.ranged fits ∙ rw (row-end w t, e)) (λ d. sym e ∙ s.sums d) s.zeros
 
 -- ---- the laws over a form, for R
 

@@ -1,3 +1,4 @@
+#![tactic(auto)]
 // Form R read back: the test of a digit string, and its 32 bytes.
 ghost use Rattle.std.specs.Prelude.{◌≡◌, ◌&&◌, ◌-◌, ◌^◌, ◌<◌, ◌≤◌, T, leb, length};
 ghost use Rattle.rules.specs.Widths.{width_r, row};
@@ -8,7 +9,7 @@ ghost use Rattle.rules.specs.Promises.{Reads};
 use digits::magnitude::offset;
 use rules::Verdict;
 use scalar::reply::{Reply, refused};
-use shape::radix::shape;
+use shape::shape;
 use sum::read_sum;
 
 // From low to high, both included.

@@ -1,7 +1,6 @@
 -- The lines of an answer: a refusal's one line, or the form line and the digits. Assumes nothing.
 use mathlib.Core.Path.{◌≡◌, refl, sym, ◌∙◌, ap, ap₂}
 use mathlib.Core.Logic.{◌≢◌, by_cases}
-use mathlib.Core.Bool.{Bool, true, Bool-discrete}
 use mathlib.Core.List.{List, ◌++◌}
 use Prim.Native.Nat.{ℕ, ◌-◌, ◌≤◌, ◌<◌}
 use native.Mathlib.Decide.{ℕ_discrete}
@@ -18,7 +17,7 @@ use Rattle.rules.proofs.Promises.{recodes-long, recodes-determined, tally-inside
 use Rattle.rules.proofs.Exactly.{lawful-card-n, lawful-card-r}
 use Rattle.report.specs.Ascii.{ascii}
 use Rattle.report.specs.Text.{fixed_line, form_line, refused_line, answer_lines}
-use Rattle.report.specs.Report.{Whole, letter_of, width_of, scalar_of, letter_n, letter_r, LinesOf, Lines, Reports}
+use Rattle.report.specs.Report.{letter_of, width_of, scalar_of, letter_n, letter_r, LinesOf, Lines, Reports}
 use Rattle.report.specs.inner.Put.{Put}
 use Rattle.report.specs.inner.Written.{WrittenOf}
 use Rattle.report.proofs.PutLaws.{decimal-length}
@@ -44,17 +43,17 @@ module _ {bytes : List ℕ} {a : Verdict} {ds : List ℤ} {counted added : ℕ} 
 
 -- ---- the lines of an input
 
-module _ (input : List ℕ) (ended : Bool) {lines : List ℕ} where
-  pub says-wrong-length : (Whole input ended → ⊥) → lines ≡ refused_line WrongLength → Lines input ended lines
-  says-wrong-length n e = record { wrong-length = λ _. e; wrong-form = λ w. absurd (n w); form-n = λ w. absurd (n w); form-r = λ w. absurd (n w) }
+module _ (input : List ℕ) {lines : List ℕ} where
+  pub says-wrong-length : length input ≢ 34 → lines ≡ refused_line WrongLength → Lines input lines
+  says-wrong-length n e = record { wrong-length = λ _. e; wrong-form = λ l. absurd (n l); form-n = λ l. absurd (n l); form-r = λ l. absurd (n l) }
 
-  -- of 34 bytes and then the end: by the letter
-  pub says-by-letter : Whole input ended
+  -- of 34 bytes: by the letter
+  pub says-by-letter : length input ≡ 34
       → (letter_of input ≢ letter_n → letter_of input ≢ letter_r → lines ≡ refused_line WrongForm)
       → (letter_of input ≡ letter_n → LinesOf letter_n card_n (scalar_of input) (width_of input) lines)
       → (letter_of input ≡ letter_r → LinesOf letter_r card_r (scalar_of input) (width_of input) lines)
-      → Lines input ended lines
-  says-by-letter w neither n r = record { wrong-length = λ f. absurd (f w); wrong-form = λ _. neither; form-n = λ _. n; form-r = λ _. r }
+      → Lines input lines
+  says-by-letter l neither n r = record { wrong-length = λ f. absurd (f l); wrong-form = λ _. neither; form-n = λ _. n; form-r = λ _. r }
 
 pub fixed-line-length : length fixed_line ≡ 14
 unfolding fixed_line ascii
@@ -65,25 +64,22 @@ fixed-line-length = refl
 agreed : (letter : ℕ) (F : ℕ → Form) (bytes : List ℕ) (w : ℕ) {l l' : List ℕ} → (T (F w).allowed → Lawful (F w)) → LinesOf letter F bytes w l → LinesOf letter F bytes w l' → l ≡ l'
 agreed letter F bytes w lawful p q = let d = recodes-determined (F w) lawful bytes p.recodes q.recodes in p.are ∙ rw (d.1, d.2) (sym q.are)
 
-lines-determined : (input : List ℕ) (ended : Bool) {l l' : List ℕ} → Lines input ended l → Lines input ended l' → l ≡ l'
-lines-determined input ended {l} {l'} p q =
-    let refused : (Whole input ended → ⊥) → l ≡ l' = λ n. p.wrong-length n ∙ sym (q.wrong-length n) in
+lines-determined : (input : List ℕ) {l l' : List ℕ} → Lines input l → Lines input l' → l ≡ l'
+lines-determined input {l} {l'} p q =
     by_cases (ℕ_discrete (length input) 34)
-    (λ m. by_cases (Bool-discrete ended true)
     (λ e. by_cases (ℕ_discrete (letter_of input) letter_n)
-    (λ n. agreed letter_n card_n (scalar_of input) (width_of input) (lawful-card-n (width_of input)) (p.form-n (m, e) n) (q.form-n (m, e) n))
+    (λ n. agreed letter_n card_n (scalar_of input) (width_of input) (lawful-card-n (width_of input)) (p.form-n e n) (q.form-n e n))
     (λ n. by_cases (ℕ_discrete (letter_of input) letter_r)
-    (λ r. agreed letter_r card_r (scalar_of input) (width_of input) (lawful-card-r (width_of input)) (p.form-r (m, e) r) (q.form-r (m, e) r))
-    (λ r. p.wrong-form (m, e) n r ∙ sym (q.wrong-form (m, e) n r))))
-    (λ e. refused (λ w. e w.1)))
-    (λ m. refused (λ w. m w.0))
+    (λ r. agreed letter_r card_r (scalar_of input) (width_of input) (lawful-card-r (width_of input)) (p.form-r e r) (q.form-r e r))
+    (λ r. p.wrong-form e n r ∙ sym (q.wrong-form e n r))))
+    (λ n. p.wrong-length n ∙ sym (q.wrong-length n))
 
-pub report-determined : {input : List ℕ} {ended : Bool} {bytes bytes' : List ℕ} {len len' : ℕ} → Reports input ended bytes len → Reports input ended bytes' len' → (bytes ≡ bytes') × (len ≡ len')
-report-determined {input} {ended} {bytes} {bytes'} {len} {len'} p q =
-    let e : p.lines ≡ q.lines = lines-determined input ended p.says q.says in
+pub report-determined : {input bytes bytes' : List ℕ} {len len' : ℕ} → Reports input bytes len → Reports input bytes' len' → (bytes ≡ bytes') × (len ≡ len')
+report-determined {input} {bytes} {bytes'} {len} {len'} p q =
+    let e : p.lines ≡ q.lines = lines-determined input p.says q.says in
     let l : len ≡ len' = p.long ∙ ap (λ (x : List ℕ). length (fixed_line ++ x)) e ∙ sym q.long in
     (p.text ∙ ap₂ (λ (x : List ℕ) (n : ℕ). (fixed_line ++ x) ++ replicate (2560 - n) 0) e l ∙ sym q.text, l)
 
 -- the text lies inside the array
-pub report-inside : {input : List ℕ} {ended : Bool} {bytes : List ℕ} {len : ℕ} → Reports input ended bytes len → len ≤ length bytes
+pub report-inside : {input bytes : List ℕ} {len : ℕ} → Reports input bytes len → len ≤ length bytes
 report-inside {bytes} {len} p = omega (arith, p.long, ap length p.text, length-append (fixed_line ++ p.lines) (replicate (2560 - len) 0))

@@ -1,14 +1,10 @@
 -- 01, "The program": the whole report of an input. Assumes nothing.
-use Rattle.std.specs.Prelude.{ℕ, ◌-◌, ◌≡◌, ◌≢◌, Bool, true, List, ◌++◌, length, get_or, drop, replicate, ℤ}
+use Rattle.std.specs.Prelude.{ℕ, ◌-◌, ◌≡◌, ◌≢◌, List, ◌++◌, length, get_or, drop, replicate, ℤ}
 use Prim.Native.Char.{code}
 use Rattle.rules.specs.declared.Verdict.TheVariants.{WrongLength, WrongForm}
 use Rattle.rules.specs.Forms.{Form, card_n, card_r}
 use Rattle.rules.specs.Promises.{due, Recodes}
 use Rattle.report.specs.Text.{fixed_line, refused_line, answer_lines}
-
--- The input is exactly 34 bytes: so many came, and then the end.
-abbrev pub Whole : List ℕ → Bool → Type 0
-Whole input ended = (length input ≡ 34) × (ended ≡ true)
 
 -- The input's first byte: the form letter.
 abbrev pub letter_of : List ℕ → ℕ
@@ -39,15 +35,15 @@ pub record LinesOf (letter : ℕ) (F : ℕ → Form) (bytes : List ℕ) (w : ℕ
   pub are : lines ≡ answer_lines letter w (due (F w) bytes) counted digits
 
 -- The lines after the fixed one, tried in the order 1, 2, and then the form's 3 and 4.
-pub record Lines (input : List ℕ) (ended : Bool) (lines : List ℕ) : Type 0 where
-  pub wrong-length : (Whole input ended → ⊥) → lines ≡ refused_line WrongLength
-  pub wrong-form : Whole input ended → letter_of input ≢ letter_n → letter_of input ≢ letter_r → lines ≡ refused_line WrongForm
-  pub form-n : Whole input ended → letter_of input ≡ letter_n → LinesOf letter_n card_n (scalar_of input) (width_of input) lines
-  pub form-r : Whole input ended → letter_of input ≡ letter_r → LinesOf letter_r card_r (scalar_of input) (width_of input) lines
+pub record Lines (input lines : List ℕ) : Type 0 where
+  pub wrong-length : length input ≢ 34 → lines ≡ refused_line WrongLength
+  pub wrong-form : length input ≡ 34 → letter_of input ≢ letter_n → letter_of input ≢ letter_r → lines ≡ refused_line WrongForm
+  pub form-n : length input ≡ 34 → letter_of input ≡ letter_n → LinesOf letter_n card_n (scalar_of input) (width_of input) lines
+  pub form-r : length input ≡ 34 → letter_of input ≡ letter_r → LinesOf letter_r card_r (scalar_of input) (width_of input) lines
 
--- The report of the bytes that came and of whether the input then ended: the fixed line and the lines after it, in an array whose bytes past the text are 0.
-pub record Reports (input : List ℕ) (ended : Bool) (bytes : List ℕ) (len : ℕ) : Type 0 where
+-- The report: the fixed line and the lines after it, in an array whose bytes past the text are 0.
+pub record Reports (input bytes : List ℕ) (len : ℕ) : Type 0 where
   pub lines : List ℕ
-  pub says : Lines input ended lines
+  pub says : Lines input lines
   pub text : bytes ≡ (fixed_line ++ lines) ++ replicate (2560 - len) 0
   pub long : len ≡ length (fixed_line ++ lines)

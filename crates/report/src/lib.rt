@@ -1,3 +1,4 @@
+#![tactic(auto)]
 // The program's text: from the bytes of the input to the bytes of the report.
 mod text;
 
@@ -14,7 +15,7 @@ use scalar::slice::from_slice;
 use text::{put_answer, put_fixed_line, put_refused_line};
 
 // A report: the first `len` bytes are its text, and those past it are 0.
-#[derive(Drop)]
+#[derive(Clone, Copy)]
 pub struct Output {
     pub bytes: [u8; 2560],
     pub len: usize,
@@ -52,14 +53,11 @@ fn scalar_of(input: &[u8]) -> Scalar
 }
 
 // The lines after the fixed one.
-fn put_lines(buf: &mut [u8], at: usize, input: &[u8], ended: bool) -> usize
+fn put_lines(buf: &mut [u8], at: usize, input: &[u8]) -> usize
     requires { at + 2400 ≤ length buf.old }
-    ensures { WrittenAll input.now ended buf.old at buf.new result }
+    ensures { WrittenAll input.now buf.old at buf.new result }
 {
     if input.len() != 34 {
-        return put_refused_line(buf, at, Verdict::WrongLength);
-    }
-    if !ended {
         return put_refused_line(buf, at, Verdict::WrongLength);
     }
     let letter = input[0];
@@ -74,12 +72,12 @@ fn put_lines(buf: &mut [u8], at: usize, input: &[u8], ended: bool) -> usize
     put_refused_line(buf, at, Verdict::WrongForm)
 }
 
-// The report of the bytes that came, any number of them, and of whether the input then ended.
-pub fn report(input: &[u8], ended: bool) -> Output
-    ensures { Reports input.now ended result.bytes result.len }
+// The report of an input of any length.
+pub fn report(input: &[u8]) -> Output
+    ensures { Reports input.now result.bytes result.len }
 {
     let mut bytes = [0u8; 2560];
     let at = put_fixed_line(&mut bytes, 0);
-    let len = put_lines(&mut bytes, at, input, ended);
+    let len = put_lines(&mut bytes, at, input);
     Output { bytes, len }
 }

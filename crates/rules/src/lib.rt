@@ -1,9 +1,10 @@
+#![tactic(auto)]
 // The verdicts of document 01. Its rules stand in specs/ as definitions, and the laws about them in proofs/.
 ghost use Rattle.std.specs.Prelude.{◌≡◌};
 ghost use Rattle.rules.specs.Verdicts.{number, position, ◌or_else◌};
 
 // What an entry answers: done, or one of the refusals of 01's table, in the table's order.
-#[derive(Drop)]
+#[derive(Clone, Copy)]
 pub enum Verdict {
     // 0: done
     Done,

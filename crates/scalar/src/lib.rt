@@ -1,3 +1,4 @@
+#![tactic(auto)]
 // The scalar: 32 bytes that stand for an integer, and what needs no digits.
 pub mod reply;
 pub mod select;
@@ -10,7 +11,7 @@ ghost use Rattle.scalar.specs.FromBits.{Reduced};
 ghost use Rattle.scalar.specs.IsOdd.{odd_integer};
 
 // The lowest byte comes first.
-#[derive(Drop)]
+#[derive(Clone, Copy)]
 pub struct Scalar {
     pub bytes: [u8; 32],
 }

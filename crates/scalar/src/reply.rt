@@ -4,7 +4,7 @@ ghost use Rattle.std.specs.Prelude.{◌≡◌, replicate};
 use crate::Scalar;
 use rules::Verdict;
 
-#[derive(Drop)]
+#[derive(Clone, Copy)]
 pub struct Reply {
     pub verdict: Verdict,
     pub scalar: Scalar,

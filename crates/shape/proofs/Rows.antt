@@ -8,6 +8,9 @@ use Rattle.numbers.proofs.Tests.{and_both}
 use Rattle.rules.specs.Widths.{width_r, row}
 use Rattle.rules.proofs.Table.{at-widths}
 
+pub width-held : (w : ℕ) → 4 ≤ w → w ≤ 8 → T (width_r w)
+width-held w a b = and_both (leb 4 w) (leb w 8) (le→leb 4 w a) (le→leb w 8 b)
+
 -- 256 bits in groups of w, rounded up, and one digit more at width 8
 pub implies-size-hint : (w : ℕ) → T (width_r w) → (row w).digits ≡ (256 + (w - 1)) / w + cond (eqb w 8) 1 0
 unfolding row

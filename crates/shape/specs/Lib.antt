@@ -1,2 +1,1 @@
-pub mod HalfSpan
 pub mod Shape

@@ -11,8 +11,8 @@ use native.Mathlib.Omega.{arith}
 use lib.ListN.{length, replicate, get_or, set, take, get_or-eq_default}
 use lib.Seq.{take_all, take-suc-set, length-take-le}
 use lib.Pow.{pow-add, pow_mono, shl_exact, shr_lt}
-use lib.Dec.{leb, leb→le, not_T, lit<, lit≤}
-use borrow.Author.Tests.{lt-ltb, le-ltb, le-leb, lt-leb}
+use lib.Dec.{T, leb, leb→le, lit<, lit≤}
+use borrow.Author.Tests.{lt-ltb, le-ltb, le-leb}
 use lib.IntN.{ℤ, pos, negsuc, ◌+ℤ◌, ◌*ℤ◌, +ℤ_idr, *ℤ-zero}
 use Rattle.numbers.specs.Positional.{positional}
 use Rattle.numbers.proofs.Balance.{up, dn, same, add-balance, mul-up, mul-dn}
@@ -20,16 +20,16 @@ use Rattle.numbers.proofs.Positional.{append, size}
 use Rattle.numbers.proofs.Tests.{and_left, and_right}
 use Rattle.numbers.proofs.Windows.{pow-pow}
 use Rattle.rules.specs.declared.Verdict.{Verdict}
-use Rattle.rules.specs.declared.Verdict.TheVariants.{Done, WrongLength, WrongWidth, Negative, PastEnd}
-use Rattle.rules.specs.Verdicts.{number, unless, ◌or_else◌}
+use Rattle.rules.specs.declared.Verdict.TheVariants.{Done, WrongWidth, Negative, PastEnd}
+use Rattle.rules.specs.Verdicts.{number}
 use Rattle.rules.specs.Integer.{integer, Bytes}
 use Rattle.rules.specs.Digits.{digit_at, weighted}
 use Rattle.rules.specs.Test.{range_fault}
-use Rattle.rules.proofs.Verdicts.{done-or-refused, done-or_else, refused-or_else, unless-failed}
+use Rattle.rules.proofs.Verdicts.{done-or-refused}
 use Rattle.rules.proofs.Integer.{integer-determines, byte-31}
 use Rattle.rules.proofs.Sum.{nil-sum, sum-up}
 use Rattle.sum.specs.inner.Adds.{Adds, Totals, SumAnswered, Judged}
-use Rattle.sum.specs.SumRead.{end_of, SumRead}
+use Rattle.sum.specs.SumRead.{summable, end_of, SumRead}
 
 -- ---- one digit more, as the machine works it out in 32 bits
 
@@ -230,33 +230,36 @@ module _ {given : List ℕ} {above half : ℕ} {short : Bool} {answer : Verdict}
       }
 
 module _ {ds : List ℤ} {w : ℕ} {short : Bool} {answer : Verdict} {bytes : List ℕ} where
-  refused-sum : {v : Verdict} → 0 < number v → unless (leb (w * length ds) 264) WrongLength or_else unless (leb 1 w && leb w 8) WrongWidth or_else range_fault (end_of short) (weighted (2 ^ w) ds) ≡ v → Refused v answer bytes → SumRead ds w short answer bytes
-  refused-sum h e r = record { answered = r.0 ∙ sym e; sums = λ d. absurd (not_done h r.0 d); zeros = λ _. r.1 }
+  pub reads-wrong : (1 ≤ w → w ≤ 8 → w * length ds ≤ 264 → ⊥) → Refused WrongWidth answer bytes → SumRead ds w short answer bytes
+  reads-wrong f r =
+      let widths = and_left (leb 1 w && leb w 8) (leb (w * length ds) 264) in
+      record {
+        ranged = λ t. absurd (f (leb→le 1 w (and_left (leb 1 w) (leb w 8) (widths t))) (leb→le w 8 (and_right (leb 1 w) (leb w 8) (widths t))) (leb→le (w * length ds) 264 (and_right (leb 1 w && leb w 8) _ t)));
+        unsummed = λ _. r.0;
+        sums = λ d. absurd (not_done (lit< tt) r.0 d);
+        zeros = λ _. r.1;
+      }
 
-  pub reads-long : 264 < w * length ds → Refused WrongLength answer bytes → SumRead ds w short answer bytes
-  reads-long l r = refused-sum (lit< tt) (rw (lt-leb (w * length ds) 264 l) (refused-or_else WrongLength _ (λ z. omega arith))) r
-
-  module _ (few : w * length ds ≤ 264) where
-    pub reads-wrong : (1 ≤ w → w ≤ 8 → ⊥) → Refused WrongWidth answer bytes → SumRead ds w short answer bytes
-    reads-wrong f r =
-        refused-sum (lit< tt)
-        (rw (le-leb (w * length ds) 264 few, unless-failed (leb 1 w && leb w 8) WrongWidth (not_T (leb 1 w && leb w 8) (λ t. f (leb→le 1 w (and_left (leb 1 w) (leb w 8) t)) (leb→le w 8 (and_right (leb 1 w) (leb w 8) t)))))
-        (done-or_else _ ∙ refused-or_else WrongWidth _ (λ z. omega arith))) r
-
-    pub reads-sum : 1 ≤ w → w ≤ 8 → SumAnswered (weighted (2 ^ w) ds) short answer bytes → SumRead ds w short answer bytes
-    reads-sum low high a = record { answered = rw (le-leb (w * length ds) 264 few, le-leb 1 w low, le-leb w 8 high) (a.ranged ∙ sym (done-or_else _ ∙ done-or_else _)); sums = a.sums; zeros = a.zeros }
-
--- the verdict on a string that is added up
-pub summed-answer : {ds : List ℤ} {w : ℕ} {short : Bool} {answer : Verdict} {bytes : List ℕ} → SumRead ds w short answer bytes → w * length ds ≤ 264 → 1 ≤ w → w ≤ 8 → answer ≡ range_fault (end_of short) (weighted (2 ^ w) ds)
-summed-answer {ds} {w} s few low high = rw (le-leb (w * length ds) 264 few, le-leb 1 w low, le-leb w 8 high) at s.answered ∙ done-or_else _ ∙ done-or_else _
+  pub reads-sum : 1 ≤ w → w ≤ 8 → w * length ds ≤ 264 → SumAnswered (weighted (2 ^ w) ds) short answer bytes → SumRead ds w short answer bytes
+  reads-sum low high few a =
+      record {
+        ranged = λ _. a.ranged;
+        unsummed = λ t. absurd (rw (le-leb 1 w low, le-leb w 8 high, le-leb (w * length ds) 264 few) at t);
+        sums = a.sums;
+        zeros = a.zeros;
+      }
 
 -- ---- the promise fixes the reply
 
 pub sum-read-determined : {ds : List ℤ} {w : ℕ} {short : Bool} {answer answer' : Verdict} {bytes bytes' : List ℕ} → Bytes 32 bytes → Bytes 32 bytes' → SumRead ds w short answer bytes → SumRead ds w short answer' bytes' → (answer ≡ answer') × (bytes ≡ bytes')
-sum-read-determined {answer} {answer'} {bytes} {bytes'} b b' r r' = (same_answer, done-or-refused answer done refused)
+sum-read-determined {ds} {w} {short} {answer} {answer'} {bytes} {bytes'} b b' r r' = (same_answer, done-or-refused answer done refused)
   where
+    go : (t : Bool) → summable w ds ≡ t → answer ≡ answer'
+    go true e = r.ranged (subst⁻¹ T e tt) ∙ sym (r'.ranged (subst⁻¹ T e tt))
+    go false e = r.unsummed (subst⁻¹ (λ (t : Bool). T (not t)) e tt) ∙ sym (r'.unsummed (subst⁻¹ (λ (t : Bool). T (not t)) e tt))
+
     same_answer : answer ≡ answer'
-    same_answer = r.answered ∙ sym r'.answered
+    same_answer = go (summable w ds) refl
 
     done : answer ≡ Done → bytes ≡ bytes'
     done d = integer-determines b b' (ap up (sym (r.sums d) ∙ r'.sums (sym same_answer ∙ d)))

@@ -1,5 +1,6 @@
+#![tactic(auto)]
 // The sum of a digit string, as 32 bytes.
-ghost use Rattle.std.specs.Prelude.{◌≡◌, cond, ltb, ◌+◌, ◌*◌, ◌^◌, ◌<◌, ◌≤◌, length, pos, ◌+ℤ◌};
+ghost use Rattle.std.specs.Prelude.{◌≡◌, cond, ◌+◌, ◌*◌, ◌^◌, ◌<◌, ◌≤◌, length, pos, ◌+ℤ◌};
 ghost use Rattle.rules.specs.Digits.{digit_at, weighted};
 ghost use Rattle.sum.specs.inner.Adds.{Gathers, Totals, Judged};
 ghost use Rattle.sum.specs.SumRead.{SumRead};
@@ -10,7 +11,7 @@ use scalar::Scalar;
 use scalar::reply::{Reply, done, refused};
 
 // What is added up and not yet a byte, when `next` digits are in: `bits` bits, and above them a carry that counts from 128.
-#[derive(Drop)]
+#[derive(Clone, Copy)]
 struct Held {
     next: usize,
     sum: u32,
@@ -18,7 +19,7 @@ struct Held {
 }
 
 // The bytes of a sum, and what stands above them, counted from `half`.
-#[derive(Drop)]
+#[derive(Clone, Copy)]
 struct Total {
     bytes: [u8; 32],
     above: u32,
@@ -112,31 +113,21 @@ fn judge(sum: Total, short: bool) -> Reply
     done(Scalar { bytes })
 }
 
-// Whether a string of so many digits has more than 264 bits. No product wraps.
-fn too_long(len: usize, w: usize) -> bool
-    ensures { result ≡ ltb 264 (w * len) }
-{
-    if 264 < w {
-        return 0 < len;
-    }
-    if 264 < len {
-        return 0 < w;
-    }
-    264 < w * len
-}
-
-// The sum of the digits at base 2^w, as bytes. The range ends at 2^255 where it is short, else at 2^256. A string of more than 264 bits,
-// a width other than 1 to 8 and a sum outside the range are refused with zero bytes.
+// The sum of the digits at base 2^w, as bytes. The range ends at 2^255 where it is short, else at 2^256; a sum outside it, and a
+// string of other widths or of more than 264 bits, is refused with zero bytes.
 pub fn read_sum(digits: &[i8], w: usize, short: bool) -> Reply
     ensures { SumRead digits.now w short result.verdict result.scalar.bytes }
 {
-    if too_long(digits.len(), w) {
-        return refused(Verdict::WrongLength);
-    }
     if w < 1 {
         return refused(Verdict::WrongWidth);
     }
     if 8 < w {
+        return refused(Verdict::WrongWidth);
+    }
+    if 264 < digits.len() {
+        return refused(Verdict::WrongWidth);
+    }
+    if 264 < w * digits.len() {
         return refused(Verdict::WrongWidth);
     }
     judge(add_up(digits, w), short)

@@ -1,3 +1,4 @@
+#![tactic(auto)]
 // A window of bits: what the recoders read.
 ghost use Rattle.std.specs.Prelude.{◌≡◌, ◌+◌, ◌*◌, ◌^◌, ◌<◌, get_or};
 ghost use Rattle.window.specs.Window.{Windowed};

@@ -1,3 +1,4 @@
+#![tactic(auto)]
 // Words of eight bytes, the lowest byte first: bytes read as words, and words written as bytes.
 ghost use Rattle.std.specs.Prelude.{◌≡◌, ℕ, ◌+◌, ◌*◌, ◌/◌, ◌%◌, ◌^◌, ◌<◌, ◌≤◌, length, get_or};
 ghost use Rattle.words.specs.Words.{word_at, WordsRead, WordsWritten};

@@ -1,5 +1,5 @@
 -- What the parts of `report` promise each other: lines written into a lent buffer. Assumes nothing.
-use Rattle.std.specs.Prelude.{ℕ, Bool, List}
+use Rattle.std.specs.Prelude.{ℕ, List}
 use Rattle.rules.specs.Forms.{Form}
 use Rattle.report.specs.inner.Put.{Put}
 use Rattle.report.specs.Report.{LinesOf, Lines}
@@ -11,7 +11,7 @@ pub record WrittenOf (letter : ℕ) (F : ℕ → Form) (bytes : List ℕ) (w : �
   pub puts : Put before at lines after next
 
 -- The lines of an input.
-pub record WrittenAll (input : List ℕ) (ended : Bool) (before : List ℕ) (at : ℕ) (after : List ℕ) (next : ℕ) : Type 0 where
+pub record WrittenAll (input before : List ℕ) (at : ℕ) (after : List ℕ) (next : ℕ) : Type 0 where
   pub lines : List ℕ
-  pub says : Lines input ended lines
+  pub says : Lines input lines
   pub puts : Put before at lines after next

@@ -1,0 +1,19 @@
+-- `calls::copy::put_figures` meets its contract. The loop's invariant: the figures passed are those of the source. Assumes nothing.
+use mathlib.Core.Path.{refl}
+use native.Mathlib.Omega.{arith}
+use borrow.Author.Rules.{rules}
+use borrow.Author.Count.{below_none}
+use lib.ListN.{length-set}
+use Rattle.numbers.proofs.Filled.{filled_more, filled-all}
+use Rattle.calls.proofs.copy.put_figures.Goals as goal
+
+pub loop-i-init : goal.loop-i-init
+loop-i-init c = (search rules, search rules, below_none _)
+
+pub loop-i-preserved : goal.loop-i-preserved
+loop-i-preserved c =
+    let l = c.loop-i in
+    (search rules, simp length-set (omega arith), filled_more 0 _ l.i l.dst _ (omega arith) l.invariant.2 refl)
+
+pub returns : goal.returns
+returns c = filled-all 0 _ _ c.loop-i.i (omega arith) (omega arith) c.loop-i.invariant.2

@@ -1,0 +1,6 @@
+-- `write_words`: the library has tried the lengths. Assumes nothing.
+use Rattle.calls_bits_words.proofs.BitWordCalls.{write-words-given}
+use Rattle.calls_bits_words.proofs.as_words.write_words.Goals as goal
+
+pub returns : goal.returns
+returns c = write-words-given c.code_of.ensures c.write_le_u64_into.ensures
