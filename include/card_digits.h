@@ -36,7 +36,7 @@
  * card_write_words from none to none, which is done. A pointer must be aligned as C wants it for its element type: 4 bytes for a tally, 8
  * for words. A buffer that is written overlaps no other buffer of the call. Buffers that are only read may be the same.
  *
- * THE MACHINE. The archive is for x86-64 with the System V calling convention (Linux). It wants memcpy and nothing else from outside. There is
+ * THE MACHINE. The archive is for x86-64-v2 (SSE 4.2, POPCNT) with the System V calling convention (Linux). It wants memcpy and nothing else from outside. There is
  * no heap, no file and no global data that is written: calls are reentrant, and may run in any number of threads, each with its own
  * buffers to write. CARD_STACK_BYTES bounds the stack of a call.
  *
@@ -84,7 +84,7 @@ uint64_t card_from_bits(const uint8_t *bytes, size_t bytes_len, uint8_t *out, si
 
 /* out becomes a if choice is 0, and b if it is 1; any other choice is 9. All three have 32 bytes. a and b may be the same buffer. Numbers:
  * 0, 1, 9. */
-uint64_t card_select(const uint8_t *a, size_t a_len, const uint8_t *b, size_t b_len, uint64_t choice, uint8_t *out, size_t out_len);
+uint64_t card_select(const uint8_t *a, size_t a_len, const uint8_t *b, size_t b_len, uint32_t choice, uint8_t *out, size_t out_len);
 
 /* out[0] becomes 1 if the integer of bytes is odd, and 0 if it is even. 32 bytes, 1 byte. Numbers: 0, 1. */
 uint64_t card_is_odd(const uint8_t *bytes, size_t bytes_len, uint8_t *out, size_t out_len);

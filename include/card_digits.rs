@@ -3,7 +3,7 @@
 //     #[path = "path/to/include/card_digits.rs"]
 //     mod card_digits;
 //
-// and links the archive of `rt staticlib card`: rustc -L native=target/staticlib. Each function takes slices and hands their pointers and
+// and links the archive that tools/build makes: rustc -L native=target/staticlib. Each function takes slices and hands their pointers and
 // lengths over; nothing else is unsafe here. It returns number + 256 * position, 0 being done, and a refused call writes nothing. The header
 // beside this file, card_digits.h, says the same for C, with the forms, the order of refusals and what is asked of buffers; `raw` has its
 // functions as they are.
@@ -62,7 +62,7 @@ pub mod raw {
     #[link(name = "card", kind = "static")]
     unsafe extern "C" {
         pub fn card_from_bits(bytes: *const u8, bytes_len: usize, out: *mut u8, out_len: usize) -> u64;
-        pub fn card_select(a: *const u8, a_len: usize, b: *const u8, b_len: usize, choice: u64, out: *mut u8, out_len: usize) -> u64;
+        pub fn card_select(a: *const u8, a_len: usize, b: *const u8, b_len: usize, choice: u32, out: *mut u8, out_len: usize) -> u64;
         pub fn card_is_odd(bytes: *const u8, bytes_len: usize, out: *mut u8, out_len: usize) -> u64;
         pub fn card_zeroize(buf: *mut u8, buf_len: usize) -> u64;
         pub fn card_bits(bytes: *const u8, bytes_len: usize, bits: *mut u8, bits_len: usize) -> u64;
@@ -86,7 +86,7 @@ pub fn from_bits(bytes: &[u8], out: &mut [u8]) -> u64 {
 
 /// `out` becomes `a` if `choice` is 0 and `b` if it is 1. All three have 32 bytes. Numbers: 0, 1, 9.
 #[must_use]
-pub fn select(a: &[u8], b: &[u8], choice: u64, out: &mut [u8]) -> u64 {
+pub fn select(a: &[u8], b: &[u8], choice: u32, out: &mut [u8]) -> u64 {
     unsafe { raw::card_select(a.as_ptr(), a.len(), b.as_ptr(), b.len(), choice, out.as_mut_ptr(), out.len()) }
 }
 

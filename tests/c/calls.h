@@ -18,7 +18,7 @@ struct call {
 
 /* What is handed over beside the slices. */
 static size_t width = 5;
-static uint64_t choice = 0;
+static uint32_t choice = 0;
 
 #define SLICE(k) p[k], n[k]
 #define CALL(name, ...) static uint64_t make_##name(void *const *p, const size_t *n) { return name(__VA_ARGS__); }

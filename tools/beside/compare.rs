@@ -76,7 +76,7 @@ fn without_digits(r: &mut Record, s: &Bytes, other: &Bytes) {
     let code = card::from_bits(s, &mut out);
     r.must("from_bits".into(), s, code == 0 && out == Scalar::from_bits(*s).bytes);
     for choice in [0u8, 1] {
-        let code = card::select(s, other, choice as u64, &mut out);
+        let code = card::select(s, other, choice as u32, &mut out);
         let peer = Scalar::conditional_select(&mine, &theirs, Choice(choice));
         r.must("conditional_select".into(), s, code == 0 && out == peer.bytes);
     }
