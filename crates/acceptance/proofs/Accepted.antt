@@ -10,17 +10,18 @@ use borrow.Author.Tests.{ne_eqb}
 use lib.Dec.{T, leb, eqb, leb→le, nleb→lt, not_T}
 use lib.ListN.{get_or}
 use lib.IntN.{ℤ}
-use Rattle.rules.specs.declared.Verdict.{Verdict}
+use Rattle.rules.specs.Verdicts.{Verdict}
 use Rattle.rules.specs.Integer.{Bytes}
 use Rattle.rules.specs.Digits.{count, additions}
 use Rattle.rules.specs.Widths.{width_r, row}
-use Rattle.rules.specs.Forms.{card_n, card_r}
+use Rattle.rules.specs.Forms.{Form, card_n, card_r}
 use Rattle.rules.specs.Test.{verdict}
 use Rattle.rules.specs.Promises.{Recodes, Reads}
 use Rattle.rules.proofs.Additions.{additions-bound}
 use Rattle.rules.proofs.Exactly.{lawful-card-n, lawful-card-r}
 use Rattle.acceptance.specs.Strings.{digit, non_zero_among}
 use Rattle.acceptance.specs.Conditions.{n01, r01, Recoding, Tested, Reading, EachOne}
+use Rattle.acceptance.specs.Forms.{Named, N, R, form01, card}
 use Rattle.acceptance.proofs.Sums.{sum-n-is, sum-r-is}
 use Rattle.acceptance.proofs.Tallies.{additions-among, counted-n, one-count}
 use Rattle.acceptance.proofs.RulesN.{width-n, digit-n, passes-n}
@@ -76,6 +77,11 @@ agrees-r w = record {
     λ (c, d). (((row w).top, 2 ^ (row w).bits, rw c (row-r w p.allowed)), d),
   );
 }
+
+-- by name
+pub agrees : (name : Named) (w : ℕ) {F : Form} → F ≡ card name w → Agrees F (form01 name w)
+agrees N w e = rw e (agrees-n w)
+agrees R w e = rw e (agrees-r w)
 
 -- ---- the conditions, over the width
 

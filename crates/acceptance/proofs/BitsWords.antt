@@ -7,7 +7,7 @@ use native.Mathlib.Omega.{arith}
 use borrow.Author.Tests.{eqb-true, eq-eqb}
 use lib.ListN.{length}
 use Rattle.numbers.proofs.Digits.{part-sum}
-use Rattle.rules.specs.declared.Verdict.{Verdict}
+use Rattle.rules.specs.Verdicts.{Verdict}
 use Rattle.rules.specs.Integer.{integer}
 use Rattle.bits.specs.Bits.{BitsOf}
 use Rattle.words.specs.Words.{WordsRead}

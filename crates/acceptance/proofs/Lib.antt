@@ -7,6 +7,5 @@ pub mod Recoders
 pub mod Readers
 pub mod Together
 pub mod Accepted
-pub mod Compare
 pub mod Looked
 pub mod BitsWords

@@ -6,11 +6,9 @@ use Prim.Native.Nat.{ℕ, ◌+◌, ◌-◌, ◌≤◌}
 use native.Mathlib.Omega.{arith}
 use lib.Dec.{lit≤}
 use lib.IntN.{ℤ, pos}
-use Rattle.rules.specs.declared.Verdict.{Verdict}
-use Rattle.rules.specs.declared.Verdict.TheVariants.{Done}
 use Rattle.rules.specs.Integer.{Bytes}
 use Rattle.rules.specs.Forms.{card_r}
-use Rattle.rules.specs.Verdicts.{number}
+use Rattle.rules.specs.Verdicts.{Verdict, Done, number}
 use Rattle.rules.specs.Promises.{Recodes}
 use Rattle.rules.proofs.Verdicts.{done-or-refused}
 use Rattle.rules.proofs.ZeroDigit.{replicate-zero}
@@ -42,7 +40,7 @@ among-on : (ds : List ℤ) (n m : ℕ) → n ≤ m → ((i : ℕ) → n ≤ i �
 among-on ds n m l f = let e : n + (m - n) ≡ m = omega arith in sym (rw e at (among-past ds n (m - n) (λ i h u. f i h (omega arith))))
 
 module _ (w : ℕ) {bytes : List ℕ} (b : Bytes 32 bytes) {answer : Verdict} {digits : List ℤ} {count added : ℕ} (p : Recodes (card_r w) bytes answer digits count added) where
-  none-added : added ≡ 0
+  pub none-added : added ≡ 0
   none-added = done-or-refused answer (λ e. (p.counts e).1) (λ f. (p.zeros f).2)
 
   recoded : Recoding (r01 w) bytes answer digits count 0

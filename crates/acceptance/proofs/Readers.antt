@@ -1,21 +1,22 @@
 -- The test's and a reader's promise in 01's words are the library's, for every form that agrees: conditions 1 to 3. Assumes nothing.
 use mathlib.Core.Path.{◌≡◌, refl, sym, ◌∙◌, ap, subst}
 use mathlib.Core.Logic.{◌≢◌, ◌↔◌, ◌⊎◌, inl, inr}
-use mathlib.Core.Bool.{true, false}
+use mathlib.Core.Bool.{Bool, true, false}
 use mathlib.Core.List.{List}
 use Prim.Native.Nat.{ℕ, ◌+◌, ◌<◌, ◌≤◌}
 use native.Mathlib.Omega.{arith}
-use borrow.Author.Tests.{eqb-true, eq-eqb}
-use lib.Dec.{T, eqb, T_not, not_T}
+use lib.Dec.{T, T_not, not_T}
 use lib.ListN.{length, take, replicate}
 use lib.Seq.{get_or-take, length-take-le, take-length}
 use lib.IntN.{ℤ, pos}
-use Rattle.rules.specs.declared.Verdict.{Verdict}
-use Rattle.rules.specs.declared.Verdict.TheVariants.{Done, WrongLength, WrongForm, WrongWidth, TooWide, BrokenDigit, Crowded, Negative, PastEnd, WrongChoice}
+use Rattle.rules.specs.declared.Refusal.TheVariants.{WrongLength, WrongForm, WrongWidth, TooWide, BrokenDigit, Crowded, Negative, PastEnd, WrongChoice}
+use Rattle.std.specs.Prelude.{Ok, Err}
+use Rattle.std.specs.Result.{is_ok}
+use Rattle.std.proofs.lemmas.Bool.{false≢true}
 use Rattle.rules.specs.Digits.{is_zero}
 use Rattle.rules.specs.Forms.{Form}
 use Rattle.rules.specs.Keeps.{Keeps}
-use Rattle.rules.specs.Verdicts.{number, position}
+use Rattle.rules.specs.Verdicts.{Verdict, Done, number, position}
 use Rattle.rules.specs.Test.{verdict}
 use Rattle.rules.specs.Refusals as R
 use Rattle.rules.specs.Promises.{Reads}
@@ -29,27 +30,32 @@ use Rattle.acceptance.proofs.Agreed.{Agrees}
 
 -- only 5 and 6 have a position
 no-position : (v : Verdict) → number v ≢ 5 → number v ≢ 6 → position v ≡ 0
-no-position Done f g = refl
-no-position WrongLength f g = refl
-no-position WrongForm f g = refl
-no-position WrongWidth f g = refl
-no-position TooWide f g = refl
-no-position (BrokenDigit k) f g = absurd (f refl)
-no-position (Crowded k) f g = absurd (g refl)
-no-position Negative f g = refl
-no-position PastEnd f g = refl
-no-position WrongChoice f g = refl
+no-position (Ok done) f g = refl
+no-position (Err WrongLength) f g = refl
+no-position (Err WrongForm) f g = refl
+no-position (Err WrongWidth) f g = refl
+no-position (Err TooWide) f g = refl
+no-position (Err (BrokenDigit k)) f g = absurd (f refl)
+no-position (Err (Crowded k)) f g = absurd (g refl)
+no-position (Err Negative) f g = refl
+no-position (Err PastEnd) f g = refl
+no-position (Err WrongChoice) f g = refl
+
+-- a verdict that is no error is done
+done-ok : (v : Verdict) → is_ok v ≡ true → v ≡ Done
+done-ok (Ok tt) e = refl
+done-ok (Err refusal) e = absurd (false≢true e)
 
 module _ {F : Form} {C : Form01} (a : Agrees F C) where
   -- the test: done exactly if the digits are a string of the form
   pub test-done : (ds : List ℤ) → number (verdict F ds) ≡ 0 ↔ C.String ds
   test-done ds = (λ z. (a.strings ds).0 ((verdict-done F ds).0 (number-zero (verdict F ds) z)), λ s. ap number ((verdict-done F ds).1 ((a.strings ds).1 s)))
 
-  -- .. as a caller asks it, by the number
-  pub asked : (ds : List ℤ) {v : Verdict} {n : ℕ} → v ≡ verdict F ds → n ≡ number v → (eqb n 0 ≡ true) ↔ C.String ds
-  asked ds {v} {n} e m =
-      let k : n ≡ number (verdict F ds) = m ∙ ap number e in
-      (λ t. (test-done ds).0 (sym k ∙ eqb-true n 0 t), λ s. eq-eqb n 0 (k ∙ (test-done ds).1 s))
+  -- .. as a caller asks it, by whether it is done
+  pub asked : (ds : List ℤ) {v : Verdict} {b : Bool} → v ≡ verdict F ds → b ≡ is_ok v → (b ≡ true) ↔ C.String ds
+  asked ds {v} {b} e m =
+      let k : b ≡ is_ok (verdict F ds) = m ∙ ap is_ok e in
+      (λ t. (test-done ds).0 (ap number (done-ok (verdict F ds) (sym k ∙ t))), λ s. k ∙ ap is_ok (number-zero (verdict F ds) ((test-done ds).1 s)))
 
   -- ---- the test, line by line
 
@@ -100,16 +106,16 @@ module _ {F : Form} {C : Form01} (a : Agrees F C) where
     pub test-tested : Tested C ds (verdict F ds)
     test-tested = record {
       one = (
-        λ e n. (refused-1 F ds).0 ((plain WrongLength refl (λ x. omega arith) (λ x. omega arith)).0 e) (n ∙ sym a.entries),
+        λ e n. (refused-1 F ds).0 ((plain (Err WrongLength) refl (λ x. omega arith) (λ x. omega arith)).0 e) (n ∙ sym a.entries),
         λ n. ap number ((refused-1 F ds).1 (λ e. n (e ∙ a.entries))),
       );
       three = (
-        λ e. let g = (refused-3 F ds).0 ((plain WrongWidth refl (λ x. omega arith) (λ x. omega arith)).0 e) in
+        λ e. let g = (refused-3 F ds).0 ((plain (Err WrongWidth) refl (λ x. omega arith) (λ x. omega arith)).0 e) in
             (g.0 ∙ a.entries, λ end r. T_not F.allowed g.1 ((a.ends end).0 r).0),
         λ (n, none). ap number ((refused-3 F ds).1 (n ∙ sym a.entries, not_T F.allowed (λ t. none F.end ((a.ends F.end).1 (t, refl))))),
       );
       five = λ k. (
-        λ (e, i). let (o, g) = (refused-5 F ds k).0 (verdict-named (verdict F ds) (BrokenDigit k) e i) in
+        λ (e, i). let (o, g) = (refused-5 F ds k).0 (verdict-named (verdict F ds) (Err (BrokenDigit k)) e i) in
             let t = o.allowed in
             (F.end, offers o, (inside o).0 g.inside, (fine-below t ds k (let l = g.inside in omega arith)).0 g.below, λ x. T_not (F.own k (digit ds k)) g.broken ((a.own t ds k).1 x)),
         λ (end, r, l, f, x). let o = offered r in
@@ -119,7 +125,7 @@ module _ {F : Form} {C : Form01} (a : Agrees F C) where
             (ap number e, ap position e),
       );
       six = λ k. (
-        λ (e, i). let (o, g) = (refused-6 F ds k).0 (verdict-named (verdict F ds) (Crowded k) e i) in
+        λ (e, i). let (o, g) = (refused-6 F ds k).0 (verdict-named (verdict F ds) (Err (Crowded k)) e i) in
             let t = o.allowed in
             (F.end, offers o, (inside o).0 g.inside, (fine-below t ds k (let l = g.inside in omega arith)).0 g.below, (a.own t ds k).0 g.kept, (let (j, m, u, y) = g.follows in (a.close ds k).1 (g.nonzero, j, m, u, y))),
         λ (end, r, l, f, x, c). let o = offered r in
@@ -130,13 +136,13 @@ module _ {F : Form} {C : Form01} (a : Agrees F C) where
             (ap number e, ap position e),
       );
       seven = (
-        λ e. let (o, g) = (refused-7 F ds).0 ((plain Negative refl (λ x. omega arith) (λ x. omega arith)).0 e) in
+        λ e. let (o, g) = (refused-7 F ds).0 ((plain (Err Negative) refl (λ x. omega arith) (λ x. omega arith)).0 e) in
             (F.end, offers o, (fine-all o).0 g.keeps, rw (a.sums ds) at g.negative),
         λ (end, r, f, l). let o = offered r in
             ap number ((refused-7 F ds).1 (o, record { keeps = (fine-all o).1 f; negative = rw (a.sums ds) l })),
       );
       eight = (
-        λ e. let (o, g) = (refused-8 F ds).0 ((plain PastEnd refl (λ x. omega arith) (λ x. omega arith)).0 e) in
+        λ e. let (o, g) = (refused-8 F ds).0 ((plain (Err PastEnd) refl (λ x. omega arith) (λ x. omega arith)).0 e) in
             (F.end, offers o, (fine-all o).0 g.keeps, rw (a.sums ds) at g.past),
         λ (end, r, f, l). let o = offered r in
             let i = ((a.ends end).0 r.1).1 in
@@ -165,16 +171,16 @@ module _ {F : Form} {C : Form01} (a : Agrees F C) where
       plainly v x y n e = verdict-named answer v n (no-position answer (λ z. x (sym n ∙ z)) (λ z. y (sym n ∙ z)) ∙ sym (no-position v x y)) ∙ sym e
 
       go : (v : Verdict) → verdict F ds ≡ v → answer ≡ verdict F ds
-      go Done e = plainly Done (λ z. omega arith) (λ z. omega arith) (g.done.1 (h.done.0 (ap number e))) e
-      go WrongLength e = plainly WrongLength (λ z. omega arith) (λ z. omega arith) (g.one.1 (h.one.0 (ap number e))) e
-      go WrongForm e = absurd ((verdict-exactly F ds WrongForm).0 e)
-      go WrongWidth e = plainly WrongWidth (λ z. omega arith) (λ z. omega arith) (g.three.1 (h.three.0 (ap number e))) e
-      go TooWide e = absurd ((verdict-exactly F ds TooWide).0 e)
-      go (BrokenDigit k) e = let n = (g.five k).1 ((h.five k).0 (ap number e, ap position e)) in verdict-named answer (BrokenDigit k) n.0 n.1 ∙ sym e
-      go (Crowded k) e = let n = (g.six k).1 ((h.six k).0 (ap number e, ap position e)) in verdict-named answer (Crowded k) n.0 n.1 ∙ sym e
-      go Negative e = plainly Negative (λ z. omega arith) (λ z. omega arith) (g.seven.1 (h.seven.0 (ap number e))) e
-      go PastEnd e = plainly PastEnd (λ z. omega arith) (λ z. omega arith) (g.eight.1 (h.eight.0 (ap number e))) e
-      go WrongChoice e = absurd ((verdict-exactly F ds WrongChoice).0 e)
+      go (Ok done) e = plainly Done (λ z. omega arith) (λ z. omega arith) (g.done.1 (h.done.0 (ap number e))) e
+      go (Err WrongLength) e = plainly (Err WrongLength) (λ z. omega arith) (λ z. omega arith) (g.one.1 (h.one.0 (ap number e))) e
+      go (Err WrongForm) e = absurd ((verdict-exactly F ds (Err WrongForm)).0 e)
+      go (Err WrongWidth) e = plainly (Err WrongWidth) (λ z. omega arith) (λ z. omega arith) (g.three.1 (h.three.0 (ap number e))) e
+      go (Err TooWide) e = absurd ((verdict-exactly F ds (Err TooWide)).0 e)
+      go (Err (BrokenDigit k)) e = let n = (g.five k).1 ((h.five k).0 (ap number e, ap position e)) in verdict-named answer (Err (BrokenDigit k)) n.0 n.1 ∙ sym e
+      go (Err (Crowded k)) e = let n = (g.six k).1 ((h.six k).0 (ap number e, ap position e)) in verdict-named answer (Err (Crowded k)) n.0 n.1 ∙ sym e
+      go (Err Negative) e = plainly (Err Negative) (λ z. omega arith) (λ z. omega arith) (g.seven.1 (h.seven.0 (ap number e))) e
+      go (Err PastEnd) e = plainly (Err PastEnd) (λ z. omega arith) (λ z. omega arith) (g.eight.1 (h.eight.0 (ap number e))) e
+      go (Err WrongChoice) e = absurd ((verdict-exactly F ds (Err WrongChoice)).0 e)
 
   pub reads : {ds : List ℤ} {answer : Verdict} {bytes : List ℕ} → Reading C ds answer bytes → Reads F ds answer bytes
   reads {ds} {answer} {bytes} r = record {

@@ -7,12 +7,12 @@ use native.Mathlib.Omega.{arith}
 use lib.Dec.{T, T_not, not_T}
 use lib.ListN.{replicate}
 use lib.IntN.{ℤ, pos}
-use Rattle.rules.specs.declared.Verdict.{Verdict}
-use Rattle.rules.specs.declared.Verdict.TheVariants.{Done, WrongLength, WrongForm, WrongWidth, TooWide, BrokenDigit, Crowded, Negative, PastEnd, WrongChoice}
+use Rattle.rules.specs.declared.Refusal.TheVariants.{WrongLength, WrongForm, WrongWidth, TooWide, BrokenDigit, Crowded, Negative, PastEnd, WrongChoice}
+use Rattle.std.specs.Prelude.{Ok, Err}
 use Rattle.rules.specs.Integer.{Bytes}
 use Rattle.rules.specs.Forms.{Form}
 use Rattle.rules.specs.Keeps.{Passes}
-use Rattle.rules.specs.Verdicts.{number, position}
+use Rattle.rules.specs.Verdicts.{Verdict, Done, number, position}
 use Rattle.rules.specs.Refusals.{DueIf}
 use Rattle.rules.specs.Promises.{due, Recodes}
 use Rattle.rules.proofs.Verdicts.{verdict-named, number-zero}
@@ -36,14 +36,14 @@ module _ {F : Form} {C : Form01} (a : Agrees F C) where
     due-answered : Answered C bytes (due F bytes)
     due-answered = record {
       three = (
-        λ e end r. T_not F.allowed ((due-exactly F bytes WrongWidth).0 ((given WrongWidth refl).0 e)) ((a.ends end).0 r).0,
-        λ no. ap number ((due-exactly F bytes WrongWidth).1 (not_T F.allowed (λ t. no F.end ((a.ends F.end).1 (t, refl))))),
+        λ e end r. T_not F.allowed ((due-exactly F bytes (Err WrongWidth)).0 ((given (Err WrongWidth) refl).0 e)) ((a.ends end).0 r).0,
+        λ no. ap number ((due-exactly F bytes (Err WrongWidth)).1 (not_T F.allowed (λ t. no F.end ((a.ends F.end).1 (t, refl))))),
       );
       four = (
-        λ e. let h = (due-exactly F bytes TooWide).0 ((given TooWide refl).0 e) in
+        λ e. let h = (due-exactly F bytes (Err TooWide)).0 ((given (Err TooWide) refl).0 e) in
             (F.end, (a.ends F.end).1 (h.0, refl), not-below (integer_of bytes) F.end (λ l. T_not (F.room bytes) h.1 ((room h.0).1 l))),
         λ (end, r, l). let h = (a.ends end).0 r in
-            ap number ((due-exactly F bytes TooWide).1 (h.0, not_T (F.room bytes) (λ t. let m = (room h.0).0 t in let e = h.1 in omega arith))),
+            ap number ((due-exactly F bytes (Err TooWide)).1 (h.0, not_T (F.room bytes) (λ t. let m = (room h.0).0 t in let e = h.1 in omega arith))),
       );
       done = (
         λ e. let h = (due-exactly F bytes Done).0 ((given Done refl).0 e) in
@@ -52,8 +52,8 @@ module _ {F : Form} {C : Form01} (a : Agrees F C) where
             ap number ((due-exactly F bytes Done).1 (h.0, (room h.0).1 (let e = h.1 in omega arith))),
       );
       top_byte = (
-        λ e. (a.fours bytes).1 ((due-exactly F bytes TooWide).0 ((given TooWide refl).0 e)),
-        λ f. ap number ((due-exactly F bytes TooWide).1 ((a.fours bytes).0 f)),
+        λ e. (a.fours bytes).1 ((due-exactly F bytes (Err TooWide)).0 ((given (Err TooWide) refl).0 e)),
+        λ f. ap number ((due-exactly F bytes (Err TooWide)).1 ((a.fours bytes).0 f)),
       );
       nowhere = due-position F bytes;
     }
@@ -84,16 +84,16 @@ module _ {F : Form} {C : Form01} (a : Agrees F C) where
         h = due-answered
 
         go : (v : Verdict) → due F bytes ≡ v → DueIf F bytes v → number answer ≡ number (due F bytes)
-        go Done e t = let z = ap number e in g.done.1 (h.done.0 z) ∙ sym z
-        go WrongWidth e t = let z = ap number e in g.three.1 (h.three.0 z) ∙ sym z
-        go TooWide e t = let z = ap number e in g.four.1 (h.four.0 z) ∙ sym z
-        go WrongLength e t = absurd t
-        go WrongForm e t = absurd t
-        go (BrokenDigit k) e t = absurd t
-        go (Crowded k) e t = absurd t
-        go Negative e t = absurd t
-        go PastEnd e t = absurd t
-        go WrongChoice e t = absurd t
+        go (Ok done) e t = let z = ap number e in g.done.1 (h.done.0 z) ∙ sym z
+        go (Err WrongWidth) e t = let z = ap number e in g.three.1 (h.three.0 z) ∙ sym z
+        go (Err TooWide) e t = let z = ap number e in g.four.1 (h.four.0 z) ∙ sym z
+        go (Err WrongLength) e t = absurd t
+        go (Err WrongForm) e t = absurd t
+        go (Err (BrokenDigit k)) e t = absurd t
+        go (Err (Crowded k)) e t = absurd t
+        go (Err Negative) e t = absurd t
+        go (Err PastEnd) e t = absurd t
+        go (Err WrongChoice) e t = absurd t
 
     pub recodes : {answer : Verdict} {digits : List ℤ} {counted added : ℕ} → Recoding C bytes answer digits counted added → Recodes F bytes answer digits counted added
     recodes {answer} {digits} {counted} {added} r = record {

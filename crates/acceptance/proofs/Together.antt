@@ -1,29 +1,51 @@
 -- What a client has of the promises together, for every form that agrees: one string, the bytes back, one reply, two scalars told apart. Assumes nothing.
-use mathlib.Core.Path.{◌≡◌, sym, ◌∙◌, ap, subst}
+use mathlib.Core.Path.{◌≡◌, refl, sym, ◌∙◌, ap, subst}
 use mathlib.Core.Logic.{◌≢◌, ◌↔◌, ◌⊎◌, inl, inr, ⊎_elim}
 use mathlib.Core.Bool.{Bool, true, false}
 use mathlib.Core.List.{List}
-use Prim.Native.Nat.{ℕ, ◌<◌, ◌≤◌}
+use Prim.Native.Nat.{ℕ, zero, suc, ◌<◌, ◌≤◌}
 use native.Mathlib.Omega.{arith}
-use lib.ListN.{replicate}
+use lib.ListN.{get_or, replicate}
 use lib.IntN.{ℤ}
-use Rattle.rules.specs.declared.Verdict.{Verdict}
-use Rattle.rules.specs.declared.Verdict.TheVariants.{Done}
+use Rattle.std.specs.Prelude.{Result, Ok, Err}
+use Rattle.std.specs.Result.{result_and}
+use Rattle.rules.specs.declared.Refusal.{Refusal}
 use Rattle.rules.specs.Integer.{Bytes}
 use Rattle.rules.specs.Forms.{Form}
-use Rattle.rules.specs.Verdicts.{number, ◌or_else◌}
+use Rattle.rules.specs.Verdicts.{Verdict, Done, verdict_of, number, ◌or_else◌}
 use Rattle.rules.specs.Promises.{Recodes, Reads}
 use Rattle.rules.proofs.Integer.{integer-determines}
 use Rattle.rules.proofs.Passing.{pos-same}
-use Rattle.rules.proofs.Verdicts.{number-zero, done-or-refused, passed_on, refused-or_else, or_else-done}
+use Rattle.rules.proofs.Verdicts.{number-zero, done-or-refused, passed_on, refused-or_else, or_else-done, err-number, refusal-number}
 use Rattle.rules.proofs.Reading.{reads-determined}
 use Rattle.rules.proofs.Promises.{exactly-one, recodes-determined, round_trip, equal-scalars}
+use Rattle.scalar.specs.declared.Scalar.{Scalar}
+use Rattle.scalar.specs.Answers.{bytes_of}
 use Rattle.acceptance.specs.Strings.{integer_of}
-use Rattle.acceptance.specs.Conditions.{Form01, Answered, Recoding, Reading, EachOne, Back, Compared}
+use Rattle.acceptance.specs.Conditions.{Form01, Answered, Recoding, Reading, EachOne, Back, Compared, same_of}
 use Rattle.acceptance.proofs.Sums.{integer-is}
 use Rattle.acceptance.proofs.Agreed.{Agrees, not-below, held, one_end}
 use Rattle.acceptance.proofs.Recoders.{answered, recodes}
 use Rattle.acceptance.proofs.Readers.{reads}
+
+-- std's word for what is tried first
+and-else : (u v : Verdict) → result_and u v ≡ u or_else v
+and-else (Ok tt) v = sym (passed_on Done v refl)
+and-else (Err e) v = sym (refused-or_else (Err e) v (refusal-number e))
+
+-- the bytes of a refusal
+zero-bytes : Bytes 32 (replicate 32 0)
+zero-bytes = record { long = refl; small = λ k. omega (arith, zero-at 32 k) }
+  where
+    zero-at : (n k : ℕ) → get_or (replicate n 0) k 0 ≡ zero
+    zero-at zero k = refl
+    zero-at (suc n) zero = refl
+    zero-at (suc n) (suc k) = zero-at n k
+
+-- the bytes of an answer: a scalar's, or those of a refusal
+pub answer-bytes : (r : Result Scalar Refusal) → ((s : Scalar) → r ≡ Ok s → Bytes 32 s.bytes) → Bytes 32 (bytes_of r)
+answer-bytes (Ok s) f = f s refl
+answer-bytes (Err e) f = zero-bytes
 
 module _ {F : Form} {C : Form01} (a : Agrees F C) where
   -- condition 3
@@ -42,16 +64,15 @@ module _ {F : Form} {C : Form01} (a : Agrees F C) where
   -- ---- recoded, then read
 
   module _ (bytes : List ℕ) (b : Bytes 32 bytes) {v : Verdict} {digits : List ℤ} {counted added : ℕ} (p : Recodes F bytes v digits counted added) {answer : Verdict} {back : List ℕ} where
-    pub back-refused : number v ≢ 0 → (answer ≡ v) × (back ≡ replicate 32 0) → Back C bytes answer back
-    back-refused f r = record {
-      answered = subst (Answered C bytes) (sym r.0) (answered a bytes b p);
-      same = λ z. absurd (f (ap number (sym r.0) ∙ z));
+    pub back-refused : {e : Refusal} → v ≡ Err e → (answer ≡ Err e) × (back ≡ replicate 32 0) → Back C bytes answer back
+    back-refused d r = record {
+      answered = subst (Answered C bytes) (d ∙ sym r.0) (answered a bytes b p);
+      same = λ z. absurd (err-number r.0 z);
       zeros = λ _. r.1;
     }
 
-    pub back_done : number v ≡ 0 → Bytes 32 back → Reads F digits answer back → Back C bytes answer back
-    back_done z b' r =
-        let d = number-zero v z in
+    pub back_done : v ≡ Done → Bytes 32 back → Reads F digits answer back → Back C bytes answer back
+    back_done d b' r =
         let t = round_trip F a.lawful bytes (held a b) p d (held a b') r in
         record {
           answered = subst (Answered C bytes) (d ∙ sym t.0) (answered a bytes b p);
@@ -119,3 +140,10 @@ module _ {F : Form} {C : Form01} (a : Agrees F C) where
             let d = or_else-done u v (sym e ∙ number-zero answer z) in
             let i = equal-scalars F a.lawful (held a b) (held a c) (subst (λ (x : Verdict). Recodes F first x ds j m) d.0 p) (subst (λ (x : Verdict). Recodes F second x es k n) d.1 q) in
             (λ x. i.0 ((f z).0 x), λ x. (f z).1 (i.1 x))
+
+    -- .. as an answer, by std's word for what is tried first
+    pub compared-refused : {e : Refusal} {r : Result Bool Refusal} → result_and u v ≡ Err e → r ≡ Err e → Compared C first second (verdict_of r) (same_of r)
+    compared-refused d h = compared (ap verdict_of h ∙ sym d ∙ and-else u v) (λ z. absurd (err-number (ap verdict_of h) z)) (λ _. ap same_of h)
+
+    pub compared-done : {same : Bool} → result_and u v ≡ Done → (same ≡ true) ↔ (ds ≡ es) → Compared C first second Done same
+    compared-done d i = compared (sym d ∙ and-else u v) (λ _. i) (λ f. absurd (f refl))

@@ -1,7 +1,7 @@
 -- The conditions of acceptance, each as a statement over what 01 says of a form. Assumes nothing.
-use Rattle.std.specs.Prelude.{ℕ, ◌^◌, ◌<◌, ◌≤◌, ◌≡◌, ◌≢◌, ◌↔◌, ◌⊎◌, Bool, true, false, List, length, get_or, replicate, ℤ, pos, ◌≤ℤ◌, ◌<ℤ◌}
-use Rattle.rules.specs.declared.Verdict.{Verdict}
-use Rattle.rules.specs.Verdicts.{number, position}
+use Rattle.std.specs.Prelude.{ℕ, ◌^◌, ◌<◌, ◌≤◌, ◌≡◌, ◌≢◌, ◌↔◌, ◌⊎◌, Bool, true, false, List, length, get_or, replicate, Result, Ok, Err, ℤ, pos, ◌≤ℤ◌, ◌<ℤ◌}
+use Rattle.rules.specs.declared.Refusal.{Refusal}
+use Rattle.rules.specs.Verdicts.{Verdict, number, position}
 use Rattle.acceptance.specs.Strings.{integer_of, digit, sum_n, sum_r, RowR, OwnN, OwnR, CloseN, StringN, StringR, CountN, AdditionsN, non_zero_among}
 
 -- What 01 says of a form at a width.
@@ -108,6 +108,11 @@ pub record Compared (F : Form01) (first second : List ℕ) (answer : Verdict) (s
   pub done : number answer ≡ 0 ↔ ((end : ℕ) × F.Ends end × (integer_of first < end) × (integer_of second < end))
   pub equal : number answer ≡ 0 → (same ≡ true) ↔ (first ≡ second)
   pub not_done : number answer ≢ 0 → same ≡ false
+
+-- What an answer says of the two. A refusal says that they are not the same.
+abbrev pub same_of : Result Bool Refusal → Bool
+same_of (Ok same) = same
+same_of (Err refusal) = false
 
 -- Condition 2: a recoding of R, and a caller who goes through the digits that count. He sees every one that is not 0, and at width 8 they are 33.
 pub record Seen (w : ℕ) (bytes : List ℕ) (answer : Verdict) (digits : List ℤ) (count seen : ℕ) : Type 0 where

@@ -1,3 +1,4 @@
 pub mod Strings
 pub mod Bytes
 pub mod Conditions
+pub mod Forms

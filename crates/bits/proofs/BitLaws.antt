@@ -1,19 +1,21 @@
--- The 256 bits and the 32 bytes of a scalar fix each other, and what a turn of the loops of `bits_le` and `from_bits_le` adds. Assumes nothing.
+-- The 256 bits and the 32 bytes of a scalar fix each other, and what an element of `bits_le` and `from_bits_le` and a turn of `byte_of` add. Assumes nothing.
 use mathlib.Core.Path.{◌≡◌, refl, sym, ap, subst, ◌∙◌}
 use mathlib.Core.Bool.{Bool, true, false}
-use mathlib.Core.List.{List, map}
-use Prim.Native.Nat.{ℕ, zero, suc, ◌+◌, ◌-◌, ◌*◌, ◌/◌, ◌%◌, ◌^◌, ◌≤◌, ◌<◌}
-use native.Mathlib.Nat.{mod-lt, lt_of_lt_of_le}
+use mathlib.Core.List.{List, [], ◌∷◌, map, reverse}
+use Prim.Native.Nat.{ℕ, zero, suc, ◌+◌, ◌-◌, ◌*◌, ◌/◌, ◌%◌, ◌^◌, ◌<◌}
+use native.Mathlib.Nat.{mod-lt}
 use native.Mathlib.Omega.{arith}
 use lib.Dec.{eqb, lit<}
-use lib.ListN.{length, get_or, take, drop, length-map, length-take, length-drop, drop_of_length-le, get_or-map}
-use lib.Seq.{ext_get_or, get_or-take, get_or-drop}
-use lib.Pow.{pow_mono}
+use lib.ListN.{length, get_or, take, drop, length-map, get_or-map}
+use lib.Seq.{ext_get_or}
+use Rattle.std.specs.List.{fold, slice_range}
+use Rattle.std.proofs.lemmas.List.{reverse-append, drop-map, take-map}
+use Rattle.std.proofs.lemmas.List.Sums.{fold-append}
 use Rattle.rules.specs.Integer.{integer, Bytes}
 use Rattle.numbers.specs.Positional.{positional}
-use Rattle.numbers.proofs.Positional.{Below, front, size, digit-of, same_digits}
-use Rattle.numbers.proofs.Digits.{below-drop, below-take, of-digits, grouped}
-use Rattle.numbers.proofs.Filled.{Filled}
+use Rattle.numbers.proofs.Positional.{Below, size, digit-of, same_digits}
+use Rattle.numbers.proofs.Digits.{of-digits, grouped}
+use Rattle.numbers.proofs.Rounding.{twice}
 use Rattle.numbers.proofs.Windows.{inside}
 use Rattle.bits.specs.BitNumber.{bit_number}
 use Rattle.bits.specs.Bits.{BitsOf, binary_digit}
@@ -59,42 +61,39 @@ pub from-bits-le-determined : (bs bs' : List ℕ) (bits : List Bool) → Bytes 3
 from-bits-le-determined bs bs' bits b b' p q =
     same_digits 256 bs bs' b.small b'.small (b.long ∙ sym b'.long) (sym (implies-bits-sum bs bits b p) ∙ implies-bits-sum bs' bits b' q)
 
--- a turn of `bits_le`: the binary digit at a place is that of its byte
+-- an element of `bits_le`: the binary digit at a place is that of its byte
 pub digit-in-byte : (bytes : List ℕ) (at : ℕ) → Below 256 bytes → binary_digit (get_or bytes (at / 8) 0) (at % 8) ≡ binary_digit (integer bytes) at
 digit-in-byte bytes at f =
     let e : 8 * (at / 8) + at % 8 ≡ at = omega arith in
     ap (λ (n : ℕ). eqb n 1) (sym (inside 8 bytes (at / 8) (at % 8) 1 f (omega arith)) ∙ ap (λ (n : ℕ). integer bytes / 2 ^ n % 2) e)
 
--- the eight bits from place `at` up, as digits
-abbrev pub eight : List Bool → ℕ → List ℕ
-eight bits at = take 8 (drop at (digits bits))
+-- the eight bits from place `at` up
+abbrev pub eight : List Bool → ℕ → List Bool
+eight bits at = slice_range bits at (at + 8)
 
--- `byte_of` reads them from the top down
-module _ (bits : List Bool) (at : ℕ) (fits : at + 8 ≤ length bits) where
-  eight-long : length (eight bits at) ≡ 8
-  eight-long = simp (length-take, length-drop, length-map) (omega arith)
+eight-digits : (bits : List Bool) (at : ℕ) → digits (eight bits at) ≡ take 8 (drop at (digits bits))
+eight-digits bits at =
+    let e : at + 8 - at ≡ 8 = omega arith in
+    rw (e, drop-map, take-map) refl
 
-  pub eight-none : 0 ≡ positional 2 (drop 8 (eight bits at))
-  unfolding positional
-  eight-none = rw (drop_of_length-le (eight bits at) {i = 8} (omega (arith, eight-long)))
+-- `byte_of` reads bits from the top down
+pub from-top : (bits : List Bool) → fold (λ (a : ℕ) (b : Bool). 2 * a + bit_number b) 0 (reverse bits) ≡ positional 2 (digits bits)
+unfolding positional
+from-top [] = refl
+from-top (b ∷ bits) =
+    let step = λ (a : ℕ) (b : Bool). 2 * a + bit_number b in
+    ap (fold step 0) (reverse-append (b ∷ []) bits) ∙ fold-append step 0 (reverse bits) (b ∷ []) ∙ omega (arith, from-top bits)
 
-  pub eight-more : (left : ℕ) → 0 < left → left ≤ 8 → 2 * positional 2 (drop left (eight bits at)) + bit_number (get_or bits (at + (left - 1)) false) ≡ positional 2 (drop (left - 1) (eight bits at))
-  eight-more left h l =
-      let n = left - 1 in
-      let e : suc n ≡ left = omega arith in
-      let here : get_or (eight bits at) n 0 ≡ bit_number (get_or bits (at + n) false) = get_or-take 8 (drop at (digits bits)) n 0 (omega arith) ∙ get_or-drop at (digits bits) n 0 ∙ digit-at bits (at + n) in
-      sym (front 2 (eight bits at) n ∙ rw (e, here) (omega arith))
-
-  pub eight-small : (left : ℕ) → 0 < left → positional 2 (drop left (eight bits at)) < 128
-  eight-small left h =
-      let ds = drop left (eight bits at) in
-      let short : length ds ≤ 7 = rw (length-drop, eight-long) (omega arith) in
-      lt_of_lt_of_le (size 2 ds (below-drop 2 left (eight bits at) (below-take 2 8 (drop at (digits bits)) (below-drop 2 at (digits bits) (digits-small bits))))) (pow_mono short)
+-- .. and its number so far is as small as the bits passed allow
+pub bit-more : (n a : ℕ) (b : Bool) → a < 2 ^ n → 2 * a + bit_number b < 2 ^ (n + 1)
+bit-more n a b h =
+    let m : n + 1 - 1 ≡ n = omega arith in
+    omega (arith, bit-small b, rw m at (twice (n + 1) (omega arith)))
 
 -- bytes made of eight bits each have those bits
-pub bits-of-eights : (bytes : List ℕ) (bits : List Bool) → length bytes ≡ 32 → length bits ≡ 256 → Filled 0 (λ k. positional 2 (eight bits (8 * k))) 32 bytes → BitsOf bytes bits
+pub bits-of-eights : (bytes : List ℕ) (bits : List Bool) → length bytes ≡ 32 → length bits ≡ 256 → ((k : ℕ) → k < 32 → get_or bytes k 0 ≡ positional 2 (digits (eight bits (8 * k)))) → BitsOf bytes bits
 bits-of-eights bytes bits l m f =
-    let e : integer bytes ≡ positional 2 (digits bits) = grouped 2 8 bytes (digits bits) (length-map bits bit_number ∙ m ∙ ap (λ (n : ℕ). 8 * n) (sym l)) (λ k h. f k (omega arith)) in
+    let e : integer bytes ≡ positional 2 (digits bits) = grouped 2 8 bytes (digits bits) (length-map bits bit_number ∙ m ∙ ap (λ (n : ℕ). 8 * n) (sym l)) (λ k h. f k (omega arith) ∙ ap (positional 2) (eight-digits bits (8 * k))) in
     record {
       long = m;
       each = λ i h. sym (rw (e, digit-of 2 (digits bits) i (digits-small bits), digit-at bits i) (bit-back _));

@@ -6,10 +6,11 @@ use native.Mathlib.Decide.{ℕ_discrete}
 use native.Mathlib.Omega.{arith}
 use borrow.Author.Tests.{eq-eqb, ne_eqb}
 use lib.Dec.{eqb}
-use Rattle.rules.specs.declared.Verdict.{Verdict}
-use Rattle.rules.specs.declared.Verdict.TheVariants.{Done, WrongLength}
-use Rattle.rules.specs.Verdicts.{number, unless}
-use Rattle.rules.proofs.Verdicts.{done-or-refused}
+use Rattle.rules.specs.declared.Refusal.TheVariants.{WrongLength}
+use Rattle.std.specs.Prelude.{Err}
+use Rattle.rules.specs.Verdicts.{Verdict, Done, number, unless}
+use Rattle.rules.specs.declared.Refusal.{Refusal}
+use Rattle.rules.proofs.Verdicts.{done-or-refused, refusal-number}
 use Rattle.calls.specs.Code.{code}
 use Rattle.calls.specs.Answers.{Answers}
 
@@ -20,10 +21,6 @@ module _ {B : Type 0} {Asked : B → Type 0} {before : B} {due : Verdict} where
   pub answers-refused : {result : ℕ} (v : Verdict) → due ≡ v → number v ≢ 0 → result ≡ code v → Answers due Asked before before result
   answers-refused v e n r = record { coded = r ∙ sym (ap code e); done = λ d. absurd (n (ap number (sym e ∙ d))); refused = λ _. refl }
 
-  -- a length is wrong
-  pub answers-short : due ≡ WrongLength → Answers due Asked before before 1
-  answers-short e = answers-refused WrongLength e (λ z. omega arith) refl
-
   -- the verdict of the library is the one due, and what it made is what was asked for
   pub answers-given : {v : Verdict} {after : B} {result : ℕ} {Made : B → Type 0} → due ≡ v → Answers v Made before after result → ((x : B) → v ≡ Done → Made x → Asked x) → Answers due Asked before after result
   answers-given e p f = record { coded = p.coded ∙ sym (ap code e); done = λ d. let g = sym e ∙ d in f _ g (p.done g); refused = λ n. p.refused (λ g. n (e ∙ g)) }
@@ -31,7 +28,7 @@ module _ {B : Type 0} {Asked : B → Type 0} {before : B} {due : Verdict} where
 -- the library has tried the lengths, m against n, and written where they agree
 module _ (m n : ℕ) {v : Verdict} where
   pub answers-sized : {B : Type 0} {Asked : B → Type 0} {before after : B} {result : ℕ} → result ≡ code v
-      → (m ≡ n → (v ≡ Done) × Asked after) → (m ≢ n → (v ≡ WrongLength) × (after ≡ before)) → Answers (unless (eqb m n) WrongLength) Asked before after result
+      → (m ≡ n → (v ≡ Done) × Asked after) → (m ≢ n → (v ≡ Err WrongLength) × (after ≡ before)) → Answers (unless (eqb m n) WrongLength) Asked before after result
   answers-sized {Asked} {before} {after} {result} r f g = go (ℕ_discrete m n)
     where
       go : Dec (m ≡ n) → Answers (unless (eqb m n) WrongLength) Asked before after result
@@ -51,3 +48,7 @@ answers-determined {due} u p q = (
   p.coded ∙ sym q.coded,
   done-or-refused due (λ d. u _ _ (p.done d) (q.done d)) (λ n. p.refused n ∙ sym (q.refused n)),
 )
+
+-- a call stops with the refusal that is due, and the buffers are as before
+pub answers-stopped : {B : Type 0} {Asked : B → Type 0} {before : B} {due result : Verdict} {e : Refusal} → due ≡ Err e → result ≡ Err e → Answers due Asked before before (code result)
+answers-stopped {e = e} d p = answers-refused (Err e) d (refusal-number e) (ap code p)

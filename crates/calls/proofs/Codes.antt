@@ -3,8 +3,7 @@ use mathlib.Core.Path.{◌≡◌, sym, ◌∙◌}
 use Prim.Native.Nat.{ℕ, ◌+◌, ◌*◌, ◌/◌, ◌%◌, ◌^◌, ◌<◌}
 use native.Mathlib.Nat.{mod-eq_of_lt}
 use native.Mathlib.Omega.{arith}
-use Rattle.rules.specs.declared.Verdict.{Verdict}
-use Rattle.rules.specs.Verdicts.{number, position}
+use Rattle.rules.specs.Verdicts.{Verdict, number, position}
 use Rattle.rules.proofs.Verdicts.{number_small, verdict-named}
 use Rattle.calls.specs.Code.{code}
 

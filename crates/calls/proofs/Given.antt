@@ -1,55 +1,64 @@
--- The library's answer, handed over: it makes the answer of the call. Recoders and readers over any form. Assumes nothing.
-use mathlib.Core.Path.{◌≡◌, sym, ap, ◌∙◌}
+-- The calls of a form, step by step: a length that is wrong, the refusal of the library, and what it made. Over any form of 32 bytes. Assumes nothing.
+use mathlib.Core.Path.{◌≡◌, sym, subst, ◌∙◌}
 use mathlib.Core.Bool.{◌&&◌}
 use mathlib.Core.List.{List, [], ◌∷◌}
 use Prim.Native.Nat.{ℕ}
-use lib.ListN.{length}
+use lib.Dec.{T}
 use lib.IntN.{ℤ}
-use Rattle.rules.specs.declared.Verdict.{Verdict}
-use Rattle.rules.specs.declared.Verdict.TheVariants.{Done, WrongLength}
-use Rattle.rules.specs.Verdicts.{unless, ◌or_else◌}
+use Rattle.std.specs.Prelude.{Err}
+use Rattle.numbers.proofs.Tests.{and_left, and_right, and_both}
+use Rattle.rules.specs.declared.Refusal.{Refusal}
+use Rattle.rules.specs.declared.Refusal.TheVariants.{WrongLength}
+use Rattle.rules.specs.Verdicts.{Verdict, Done, unless, ◌or_else◌}
 use Rattle.rules.specs.Integer.{Bytes}
 use Rattle.rules.specs.Forms.{Form}
+use Rattle.rules.specs.Test.{verdict}
 use Rattle.rules.specs.Promises.{due, Recodes, Reads}
-use Rattle.rules.proofs.Verdicts.{or_else-done}
-use Rattle.rules.proofs.Promises.{recodes-long}
-use Rattle.scalar.specs.FromSlice.{FromSlice}
-use Rattle.scalar.proofs.FromSlices.{slice-answered, slice_first, slice_taken}
-use Rattle.calls.specs.Answers.{sized, Answers}
-use Rattle.calls.specs.Forms.{Tallied, CardRecode, CardRead}
-use Rattle.calls.proofs.Lengths.{two-lengths, first-later}
-use Rattle.calls.proofs.Answers.{answers-given}
+use Rattle.calls.specs.Answers.{sized}
+use Rattle.calls.specs.Forms.{CardRecode, CardRead}
+use Rattle.calls.proofs.Lengths.{wrong-length-first, right-length, right-lengths}
+use Rattle.calls.proofs.Answers.{answers-done}
 
--- what one scalar makes: it is taken, and n elements made of it are copied
-pub taken-given : (n : ℕ) {given taken made before after : List ℕ} {Asked : List ℕ → Type 0} {u : Verdict} {result : ℕ}
-    → FromSlice given u taken → length made ≡ n → (taken ≡ given → Asked made)
-    → Answers (unless (sized (length made) before) WrongLength or_else u) (λ x. x ≡ made) before after result
-    → Answers (unless (sized 32 given && sized n before) WrongLength) Asked before after result
-taken-given n {given} {before = before} s l f p = answers-given (two-lengths (sized 32 given) (sized n before) ∙ rw (l, slice-answered s)) p (λ x d e. rw e (f (slice_taken s (or_else-done _ _ d).1)))
+module _ (F : Form) (wide : F.bytes ≡ 32) where
+  -- ---- a reader's
 
-module _ (F : Form) where
-  -- a recoder's: what was given is taken as a scalar, recoded, and the digits and figures are copied
-  pub recode-given : F.bytes ≡ 32 → {given taken figures tally tally' : List ℕ} {u v : Verdict} {made digits digits' : List ℤ} {counted added result : ℕ}
-      → FromSlice given u taken → Recodes F taken v made counted added → figures ≡ counted ∷ added ∷ []
-      → Answers (unless (sized (length made) digits && sized (length figures) tally) WrongLength or_else (u or_else v)) (λ (lent : List ℤ × List ℕ). (lent.0 ≡ made) × (lent.1 ≡ figures)) (digits, tally) (digits', tally') result
-      → CardRecode F given digits tally digits' tally' result
-  recode-given wide {given} {taken} {figures} {tally} {u = u} {v = v} {made} {digits} {counted = counted} {added = added} s r f p = answers-given first p tallied
-    where
-      taken-first : unless (sized F.bytes given) WrongLength or_else due F given ≡ u or_else v
-      taken-first = ap (λ (n : ℕ). unless (sized n given) WrongLength or_else due F given) wide ∙ sym (slice_first s (λ e. r.answered ∙ ap (due F) e))
+  module _ (digits : List ℤ) (before : List ℕ) where
+    -- the buffer is not of 32 bytes
+    pub read-short : {e : Refusal} → Err e ≡ unless (sized 32 before) WrongLength → unless (sized F.bytes before) WrongLength or_else verdict F digits ≡ Err e
+    read-short p = wrong-length-first _ _ _ (subst (λ (n : ℕ). T (sized n before)) wide) p
 
-      first : unless (sized F.bytes given && sized F.long digits && sized 2 tally) WrongLength or_else due F given ≡ unless (sized (length made) digits && sized (length figures) tally) WrongLength or_else (u or_else v)
-      first =
-          first-later (sized F.bytes given) (sized F.long digits) (sized 2 tally) (due F given)
-          ∙ ap (λ (x : Verdict). unless (sized F.long digits && sized 2 tally) WrongLength or_else x) taken-first
-          ∙ rw (ap length f, recodes-long F taken r)
+    -- it is, and the test decides
+    pub read-sized : Done ≡ unless (sized 32 before) WrongLength → unless (sized F.bytes before) WrongLength or_else verdict F digits ≡ verdict F digits
+    read-sized p = right-lengths _ _ (subst (λ (n : ℕ). T (sized n before)) (sym wide) (right-length _ p))
 
-      tallied : (x : List ℤ × List ℕ) → unless (sized (length made) digits && sized (length figures) tally) WrongLength or_else (u or_else v) ≡ Done → (x.0 ≡ made) × (x.1 ≡ figures) → Tallied F given x.0 x.1
-      tallied x d m =
-          let e = or_else-done u v (or_else-done _ _ d).1 in
-          record { counted = counted; added = added; recoded = rw (m.0, ← slice_taken s e.0) (rw e.1 at r); tallied = m.1 ∙ f }
+    pub read-given : {after made : List ℕ} → Done ≡ unless (sized 32 before) WrongLength → Bytes 32 made → Reads F digits Done made → after ≡ made → CardRead F digits before after 0
+    read-given {made = made} p b r e =
+        answers-done (read-sized p ∙ sym r.answered) (rw e (subst (λ (n : ℕ). Bytes n made) (sym wide) b, r))
 
-  -- a reader's
-  pub read-given : (digits : List ℤ) {before after made : List ℕ} {v : Verdict} {result : ℕ}
-      → Bytes F.bytes made → Reads F digits v made → Answers (unless (sized (length made) before) WrongLength or_else v) (λ x. x ≡ made) before after result → CardRead F digits before after result
-  read-given digits b r p = answers-given (rw (b.long, r.answered)) p (λ x d e. rw e (b, rw (or_else-done _ _ d).1 at r))
+  -- ---- a recoder's
+
+  module _ {n : ℕ} (long : F.long ≡ n) (bytes : List ℕ) (digits : List ℤ) (tally : List ℕ) where
+    -- all three lengths, as the promise has them
+    abbrev lengths : Verdict
+    lengths = unless ((sized F.bytes bytes && sized F.long digits) && sized 2 tally) WrongLength
+
+    pub recode-short-digits : {e : Refusal} → Err e ≡ unless (sized n digits) WrongLength → lengths or_else due F bytes ≡ Err e
+    recode-short-digits p =
+        wrong-length-first _ _ _ (λ t. subst (λ (m : ℕ). T (sized m digits)) long (and_right (sized F.bytes bytes) _ (and_left _ (sized 2 tally) t))) p
+
+    pub recode-short-tally : {e : Refusal} → Err e ≡ unless (sized 2 tally) WrongLength → lengths or_else due F bytes ≡ Err e
+    recode-short-tally p = wrong-length-first _ _ _ (and_right (sized F.bytes bytes && sized F.long digits) _) p
+
+    pub recode-short-bytes : {e : Refusal} → Err e ≡ unless (sized 32 bytes) WrongLength → lengths or_else due F bytes ≡ Err e
+    recode-short-bytes p =
+        wrong-length-first _ _ _ (λ t. subst (λ (m : ℕ). T (sized m bytes)) wide (and_left _ (sized F.long digits) (and_left _ (sized 2 tally) t))) p
+
+    module _ (d : Done ≡ unless (sized n digits) WrongLength) (t : Done ≡ unless (sized 2 tally) WrongLength) (b : Done ≡ unless (sized 32 bytes) WrongLength) where
+      -- they are right, and the recoder decides
+      pub recode-sized : lengths or_else due F bytes ≡ due F bytes
+      recode-sized =
+          right-lengths _ _ (and_both _ _ (and_both _ _ (subst (λ (m : ℕ). T (sized m bytes)) (sym wide) (right-length _ b)) (subst (λ (m : ℕ). T (sized m digits)) (sym long) (right-length _ d))) (right-length _ t))
+
+      pub recode-given : {made digits' : List ℤ} {tally' : List ℕ} {counted added : ℕ} → Recodes F bytes Done made counted added → digits' ≡ made → tally' ≡ counted ∷ added ∷ []
+          → CardRecode F bytes digits tally digits' tally' 0
+      recode-given {counted} {added} r e f = answers-done (recode-sized ∙ sym r.answered) (record { counted = counted; added = added; recoded = rw e r; tallied = f })

@@ -1,7 +1,6 @@
 -- What a call with lent buffers leaves behind it. Assumes nothing.
 use Rattle.std.specs.Prelude.{ℕ, ◌≡◌, ◌≢◌, Bool, List, eqb, length}
-use Rattle.rules.specs.declared.Verdict.{Verdict}
-use Rattle.rules.specs.declared.Verdict.TheVariants.{Done}
+use Rattle.rules.specs.Verdicts.{Verdict, Done}
 use Rattle.calls.specs.Code.{code}
 
 -- The list has n elements.

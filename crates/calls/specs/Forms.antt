@@ -1,7 +1,7 @@
 -- The calls of the two forms. Assumes nothing.
 use Rattle.std.specs.Prelude.{ℕ, ◌≡◌, ◌&&◌, List, [], ◌∷◌, ℤ}
-use Rattle.rules.specs.declared.Verdict.TheVariants.{Done, WrongLength}
-use Rattle.rules.specs.Verdicts.{unless, ◌or_else◌}
+use Rattle.rules.specs.declared.Refusal.TheVariants.{WrongLength}
+use Rattle.rules.specs.Verdicts.{Done, unless, ◌or_else◌}
 use Rattle.rules.specs.Integer.{Bytes}
 use Rattle.rules.specs.Forms.{Form}
 use Rattle.rules.specs.Test.{verdict}

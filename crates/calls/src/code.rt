@@ -1,4 +1,4 @@
-// The number that a call returns.
+// The number that a call of the C interface returns.
 ghost use Rattle.std.specs.Prelude.{◌≡◌};
 ghost use Rattle.calls.specs.Code.{code};
 
@@ -8,5 +8,8 @@ use rules::Verdict;
 pub fn code_of(v: Verdict) -> u64
     ensures { result ≡ code v }
 {
-    (v.number() as u64) + ((v.position() as u64) << 8)
+    match v {
+        Ok(()) => 0,
+        Err(refusal) => (refusal.number() as u64) + ((refusal.position() as u64) << 8),
+    }
 }

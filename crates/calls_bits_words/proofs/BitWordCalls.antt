@@ -1,36 +1,20 @@
 -- The calls on bits and on words: the library's answer handed over, and one answer to each call. Assumes nothing.
-use mathlib.Core.Path.{◌≡◌, sym, ap, ◌∙◌}
-use mathlib.Core.Bool.{Bool, false}
+use mathlib.Core.Path.{◌≡◌, sym, ◌∙◌}
 use mathlib.Core.List.{List, map}
 use Prim.Native.Nat.{ℕ, ◌*◌}
 use native.Mathlib.Omega.{arith}
-use borrow.Author.Tests.{eq-eqb}
-use lib.ListN.{length, length-map, get_or-map}
+use lib.ListN.{length}
 use lib.Seq.{ext_get_or}
-use Rattle.rules.specs.declared.Verdict.{Verdict}
-use Rattle.rules.specs.declared.Verdict.TheVariants.{Done, WrongLength}
-use Rattle.rules.specs.Verdicts.{unless, ◌or_else◌}
-use Rattle.rules.specs.Integer.{Bytes}
-use Rattle.bits.specs.BitNumber.{bit_number}
-use Rattle.bits.specs.Bits.{BitsOf}
+use Rattle.rules.specs.Verdicts.{Verdict, Done}
 use Rattle.bits.proofs.BitLaws.{from-bits-le-determined}
 use Rattle.words.specs.Words.{WordsRead, WordsWritten}
 use Rattle.words.proofs.WordLaws.{read-determined, write-determined}
 use Rattle.calls.specs.Code.{code}
-use Rattle.calls.specs.Answers.{sized, Answers}
-use Rattle.calls.proofs.Lengths.{two-lengths}
-use Rattle.calls.proofs.Answers.{answers-given, answers-sized, answers-determined}
-use Rattle.calls_bits_words.specs.Bits.{BitBytes, CardBits, CardFromBitBytes, is_set}
+use Rattle.calls.proofs.Answers.{answers-sized, answers-determined}
+use Rattle.calls_bits_words.specs.Bits.{CardBits, CardFromBitBytes, is_set}
 use Rattle.calls_bits_words.specs.Words.{CardReadWords, CardWriteWords}
 
 -- ---- bits
-
-pub bit-bytes : {bytes : List ℕ} (bits : List Bool) → BitsOf bytes bits → BitBytes bytes (map bit_number bits)
-bit-bytes bits r = record { long = length-map bits bit_number ∙ r.long; each = λ i h. get_or-map bit_number bits i false ∙ ap bit_number (r.each i h) }
-
-pub from-bits-given : (bits : List ℕ) {made before after : List ℕ} {result : ℕ} → length bits ≡ 256 → Bytes 32 made → BitsOf made (map is_set bits)
-    → Answers (unless (sized (length made) before) WrongLength or_else Done) (λ x. x ≡ made) before after result → CardFromBitBytes bits before after result
-from-bits-given bits {before = before} l b r g = answers-given (two-lengths (sized 256 bits) (sized 32 before) ∙ rw (b.long, eq-eqb _ _ l)) g (λ x d e. rw e (b, r))
 
 -- ---- words
 

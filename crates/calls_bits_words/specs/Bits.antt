@@ -1,6 +1,6 @@
 -- The calls on bits, each bit a byte. Assumes nothing.
 use Rattle.std.specs.Prelude.{ℕ, ◌<◌, ◌≡◌, Bool, not, ◌&&◌, List, map, eqb, length, get_or}
-use Rattle.rules.specs.declared.Verdict.TheVariants.{WrongLength}
+use Rattle.rules.specs.declared.Refusal.TheVariants.{WrongLength}
 use Rattle.rules.specs.Verdicts.{unless}
 use Rattle.rules.specs.Integer.{integer, Bytes}
 use Rattle.bits.specs.BitNumber.{bit_number}

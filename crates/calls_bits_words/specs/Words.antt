@@ -1,7 +1,7 @@
 -- The calls on words of eight bytes. Assumes nothing.
 use Rattle.std.specs.Prelude.{ℕ, ◌*◌, List, length}
-use Rattle.rules.specs.declared.Verdict.TheVariants.{Done, WrongLength}
-use Rattle.rules.specs.Verdicts.{unless}
+use Rattle.rules.specs.declared.Refusal.TheVariants.{WrongLength}
+use Rattle.rules.specs.Verdicts.{Done, unless}
 use Rattle.words.specs.Words.{WordsRead, WordsWritten}
 use Rattle.calls.specs.Answers.{sized, Answers}
 

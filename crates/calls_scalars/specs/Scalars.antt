@@ -1,7 +1,7 @@
 -- The calls on whole scalars. In each, `before` and `after` are what the lent buffer holds at the call and at the return. Assumes nothing.
 use Rattle.std.specs.Prelude.{ℕ, ◌≡◌, ◌&&◌, List, [], ◌∷◌, leb, replicate}
-use Rattle.rules.specs.declared.Verdict.TheVariants.{Done, WrongLength, WrongChoice}
-use Rattle.rules.specs.Verdicts.{unless, ◌or_else◌}
+use Rattle.rules.specs.declared.Refusal.TheVariants.{WrongLength, WrongChoice}
+use Rattle.rules.specs.Verdicts.{Done, unless, ◌or_else◌}
 use Rattle.rules.specs.Integer.{Bytes}
 use Rattle.scalar.specs.FromBits.{Reduced}
 use Rattle.scalar.specs.ConditionalSelect.{Selects}

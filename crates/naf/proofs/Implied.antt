@@ -6,8 +6,7 @@ use Prim.Native.Nat.{ℕ, ◌+◌, ◌-◌, ◌/◌, ◌<◌, ◌≤◌}
 use native.Mathlib.Omega.{arith}
 use lib.Dec.{lit<}
 use lib.IntN.{ℤ, pos}
-use Rattle.rules.specs.declared.Verdict.{Verdict}
-use Rattle.rules.specs.declared.Verdict.TheVariants.{Done}
+use Rattle.rules.specs.Verdicts.{Verdict, Done}
 use Rattle.rules.specs.Integer.{integer, Bytes}
 use Rattle.rules.specs.Digits.{digit_at, weighted}
 use Rattle.rules.specs.Forms.{card_n}

@@ -1,7 +1,7 @@
 -- The recoder's loop as a walk over the places of a string: what holds at each place, and that a turn keeps it. Over the width and the number of digits. Assumes nothing.
 use mathlib.Core.Path.{◌≡◌, refl, sym, ap, ◌∙◌}
 use mathlib.Core.Logic.{◌≢◌}
-use mathlib.Core.Bool.{Bool, true, false}
+use mathlib.Core.Bool.{false}
 use mathlib.Core.List.{List, [], ◌∷◌, ◌++◌, append_assoc, append-nil}
 use Prim.Native.Nat.{ℕ, zero, suc, ◌+◌, ◌-◌, ◌*◌, ◌/◌, ◌%◌, ◌^◌, ◌<◌, ◌≤◌}
 use native.Mathlib.Nat.{div-one, add-zero, sub-zero, suc-sub-suc, one-mul, div-add-mod', mul_left_comm, mod-lt, pow-suc, le_refl}
@@ -13,8 +13,9 @@ use lib.ListN.{length, take, drop, set, replicate, length-drop, length-set, leng
 use lib.Seq.{take_all, take-suc, take-add, take-set-le, take-nil, drop-cons, get_or-set_same, get_or-set_other, drop-set-lt, lt-length-set, get_or-drop}
 use lib.Pow.{pow_pos, shr-shr}
 use lib.IntN.{ℤ, pos}
-use Rattle.naf.specs.inner.Turns.{StepN}
+use Rattle.naf.specs.inner.Turns.{TakenN}
 use Rattle.numbers.specs.Centred.{centred, carried}
+use Rattle.numbers.proofs.Centred.{carried-bit}
 use Rattle.numbers.proofs.Rounding.{twice}
 use Rattle.rules.specs.Digits.{digit_at, is_zero, count, non_zeros}
 use Rattle.rules.proofs.ZeroDigit.{odd-nonzero, replicate-zero}
@@ -136,7 +137,7 @@ walk-starts w n x =
     }
 
 -- a turn at place `at`, whose window with the carry is s
-module _ {w n x at c : ℕ} {ds : List ℤ} {counted added : ℕ} (w⁺ : 2 ≤ w) (l : at < n) (p : Walked w n x at c ds counted added) (s : ℕ) (es : s ≡ x / 2 ^ at % 2 ^ w + c) {odd : Bool} {d : ℤ} {b : ℕ} (q : StepN w s c odd d b) where
+module _ {w n x at c : ℕ} {ds : List ℤ} {counted added : ℕ} (w⁺ : 2 ≤ w) (l : at < n) (p : Walked w n x at c ds counted added) (s : ℕ) (es : s ≡ x / 2 ^ at % 2 ^ w + c) where
   g⁺ : 0 < w - 1
   g⁺ = omega arith
 
@@ -161,15 +162,15 @@ module _ {w n x at c : ℕ} {ds : List ℤ} {counted added : ℕ} (w⁺ : 2 ≤ 
   inside = omega (arith, p.long)
 
   -- one place on
-  pub walk-skips : odd ≡ false → Walked w n x (at + 1) b ds counted added
+  pub walk-skips : s % 2 ≡ 0 → Walked w n x (at + 1) c ds counted added
   unfolding rest
-  walk-skips f =
-      let even : (x / 2 ^ at + c) % 2 ≡ 0 = parity (x / 2 ^ at) c (2 ^ (w - 1)) s p.bit (pow_pos (w - 1)) seen ∙ (q.skips f).0 in
+  walk-skips e =
+      let even : (x / 2 ^ at + c) % 2 ≡ 0 = parity (x / 2 ^ at) c (2 ^ (w - 1)) s p.bit (pow_pos (w - 1)) seen ∙ e in
       let half : (x / 2 ^ at + c) / 2 ≡ x / 2 ^ (at + 1) + c = rw (← shr-shr x at 1) (omega (arith, p.bit)) in
       let next = next-even (w - 1) g⁺ (x / 2 ^ at + c) even ∙ half in
       let m : n - (at + 1) ≡ n - suc at = omega arith in
       let t : take (at + 1) ds ≡ take at ds ++ (pos 0 ∷ []) = rw (add-one, take-suc ds at (pos 0) inside, p.ahead at (le_refl at)) in
-      rw (q.skips f).1 (record {
+      record {
         long = p.long;
         bit = p.bit;
         ahead = λ i h. p.ahead i (omega arith);
@@ -177,27 +178,24 @@ module _ {w n x at c : ℕ} {ds : List ℤ} {counted added : ℕ} (w⁺ : 2 ≤ 
         room = λ h. rw (m, ← next) (narrower h);
         counts = p.counts;
         adds = p.adds;
-      })
+      }
 
   -- a digit put, and past its window
-  module _ (t : odd ≡ true) where
-    o : s % 2 ≢ 0
-    o = (q.takes t).0
-
+  module _ {d : ℤ} {b : ℕ} (q : TakenN w s d b) where
     odd-here : (x / 2 ^ at + c) % 2 ≢ 0
-    odd-here e = o (sym (parity (x / 2 ^ at) c (2 ^ (w - 1)) s p.bit (pow_pos (w - 1)) seen) ∙ e)
+    odd-here e = q.odd (sym (parity (x / 2 ^ at) c (2 ^ (w - 1)) s p.bit (pow_pos (w - 1)) seen) ∙ e)
 
     low : (x / 2 ^ at + c) % (2 * 2 ^ (w - 1)) ≡ s
-    low = low_part (x / 2 ^ at) c (2 ^ (w - 1)) s p.bit (pow_pos (w - 1)) seen o
+    low = low_part (x / 2 ^ at) c (2 ^ (w - 1)) s p.bit (pow_pos (w - 1)) seen q.odd
 
     high : (x / 2 ^ at + c) / (2 * 2 ^ (w - 1)) ≡ x / 2 ^ (at + w)
-    high = high_part (x / 2 ^ at) c (2 ^ (w - 1)) s p.bit (pow_pos (w - 1)) seen o ∙ rw (← twice w (omega arith)) (shr-shr x at w)
+    high = high_part (x / 2 ^ at) c (2 ^ (w - 1)) s p.bit (pow_pos (w - 1)) seen q.odd ∙ rw (← twice w (omega arith)) (shr-shr x at w)
 
     digit : naf_digit (w - 1) (x / 2 ^ at + c) ≡ d
-    digit = digit-odd (w - 1) g⁺ (x / 2 ^ at + c) odd-here ∙ rw low (sym (q.takes t).1)
+    digit = digit-odd (w - 1) g⁺ (x / 2 ^ at + c) odd-here ∙ rw low (sym q.is)
 
     next : naf_next (w - 1) (x / 2 ^ at + c) ≡ 2 ^ (w - 1) * (x / 2 ^ (at + w) + b)
-    next = next-odd (w - 1) g⁺ (x / 2 ^ at + c) odd-here ∙ rw (low, high, (q.takes t).2)
+    next = next-odd (w - 1) g⁺ (x / 2 ^ at + c) odd-here ∙ rw (low, high, q.carries)
 
     -- the zeros that the digits after it are already
     zeros : take (w - 1) (drop (suc at) ds) ≡ take rest (replicate (w - 1) (pos 0))
@@ -215,7 +213,7 @@ module _ {w n x at c : ℕ} {ds : List ℤ} {counted added : ℕ} (w⁺ : 2 ≤ 
         let front : take (at + w) (set ds at d) ≡ take at ds ++ (d ∷ take (n - suc at) (replicate (w - 1) (pos 0))) = rw zeros at (rw v at (stored ds at (w - 1) d inside)) in
         record {
           long = length-set ds at d ∙ p.long;
-          bit = q.bit;
+          bit = rw q.carries (carried-bit (2 ^ (w - 1)) s);
           ahead = λ i h. get_or-set_other ds at i d (pos 0) (λ e. omega arith) ∙ p.ahead i (omega arith);
           string = rw (m, front, append_assoc, ← naf_of-run (w - 1) g⁺ (w - 1) (n - suc at) (x / 2 ^ (at + w) + b)) (rw (digit, next) at here);
           room = λ h. rw m (fits-run (w - 1) g⁺ (w - 1) (n - suc at) (x / 2 ^ (at + w) + b) (rw next at (narrower h)));

@@ -1,4 +1,4 @@
--- A digit of N read by its absolute value m: what is wrong with it, and how many digits after it lie within the gap. Assumes nothing.
+-- A digit of N read by its absolute value m: what is wrong with it, and what it begins. Assumes nothing.
 use mathlib.Core.Path.{◌≡◌, sym, ap, ◌∙◌}
 use mathlib.Core.Logic.{◌≢◌}
 use mathlib.Core.Bool.{Bool, true, false, ◌&&◌}
@@ -8,9 +8,10 @@ use lib.Dec.{eqb, ltb}
 use lib.IntN.{ℤ, nat_abs}
 use mir.Syntax.{w8}
 use mir.Val.{SFits, to_z, of_z}
-use Rattle.rules.specs.declared.Verdict.TheVariants.{Done, BrokenDigit, Crowded}
+use Rattle.rules.specs.declared.Refusal.TheVariants.{BrokenDigit, Crowded}
+use Rattle.std.specs.Prelude.{Err}
 use Rattle.rules.specs.Forms.{digit_n, card_n}
-use Rattle.rules.specs.Verdicts.{◌or_else◌}
+use Rattle.rules.specs.Verdicts.{Done, ◌or_else◌}
 use Rattle.rules.specs.inner.Scan.{fault, held_next}
 use Rattle.digits.proofs.Signed.{back8}
 
@@ -19,12 +20,9 @@ pub magnitude-is : {d : ℤ} {m : ℕ} → SFits w8 d → m ≡ nat_abs (to_z w8
 magnitude-is {d} f r = sym (r ∙ ap nat_abs (back8 d f))
 
 module _ (d : ℤ) {m : ℕ} (e : nat_abs d ≡ m) where
-  module _ (gap held : ℕ) where
-    pub held_after : m ≢ 0 → gap ≡ held_next gap held d
-    held_after n = rw (e, ne_eqb m 0 n)
-
-    pub held-less : m ≡ 0 → held - 1 ≡ held_next gap held d
-    held-less z = rw (e, z)
+  -- a digit that is not zero begins a gap
+  pub held_after : (gap held : ℕ) → m ≢ 0 → gap ≡ held_next gap held d
+  held_after gap held n = rw (e, ne_eqb m 0 n)
 
   module _ (i held w : ℕ) where
     pub fine-zero : m ≡ 0 → Done ≡ fault (card_n w) i held d
@@ -32,11 +30,11 @@ module _ (d : ℤ) {m : ℕ} (e : nat_abs d ≡ m) where
     fine-zero z = rw (e, z)
 
     module _ {half : ℕ} (h : half ≡ 2 ^ (w - 1)) (n : m ≢ 0) {kept : Bool} (k : kept ≡ (eqb (m % 2) 1 && ltb m half)) where
-      pub broken-own : kept ≡ false → BrokenDigit i ≡ fault (card_n w) i held d
+      pub broken-own : kept ≡ false → Err (BrokenDigit i) ≡ fault (card_n w) i held d
       unfolding fault digit_n ◌or_else◌
       broken-own b = rw (e, ne_eqb m 0 n, ← h, ← k, b)
 
-      pub crowded-held : kept ≡ true → held ≢ 0 → Crowded i ≡ fault (card_n w) i held d
+      pub crowded-held : kept ≡ true → held ≢ 0 → Err (Crowded i) ≡ fault (card_n w) i held d
       unfolding fault digit_n ◌or_else◌
       crowded-held b l = rw (e, ne_eqb m 0 n, ← h, ← k, b, ne_eqb held 0 l)
 

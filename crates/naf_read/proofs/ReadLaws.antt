@@ -8,8 +8,9 @@ use borrow.Author.Tests.{le-leb}
 use lib.Dec.{T, not_T}
 use lib.ListN.{length, replicate}
 use lib.IntN.{ℤ}
-use Rattle.rules.specs.declared.Verdict.{Verdict}
-use Rattle.rules.specs.declared.Verdict.TheVariants.{Done, WrongWidth}
+use Rattle.rules.specs.declared.Refusal.TheVariants.{WrongWidth}
+use Rattle.rules.specs.Verdicts.{Verdict, Done}
+use Rattle.std.specs.Prelude.{Err}
 use Rattle.rules.specs.Integer.{Bytes}
 use Rattle.rules.specs.Widths.{width_n}
 use Rattle.rules.specs.Forms.{card_n}
@@ -28,10 +29,10 @@ pub offered-n : (ds : List ℤ) (w : ℕ) → length ds ≡ 256 → 2 ≤ w → 
 offered-n ds w l h k = record { long = l; allowed = rw (le-leb 2 w h, le-leb w 8 k) tt }
 
 -- a width outside 2 to 8 is refused with 3
-pub wrong-width-n : (ds : List ℤ) (w : ℕ) (answer : Verdict) (bytes : List ℕ) → length ds ≡ 256 → (2 ≤ w → w ≤ 8 → ⊥) → (answer ≡ WrongWidth) × (bytes ≡ replicate 32 0) → Reads (card_n w) ds answer bytes
+pub wrong-width-n : (ds : List ℤ) (w : ℕ) (answer : Verdict) (bytes : List ℕ) → length ds ≡ 256 → (2 ≤ w → w ≤ 8 → ⊥) → (answer ≡ Err WrongWidth) × (bytes ≡ replicate 32 0) → Reads (card_n w) ds answer bytes
 wrong-width-n ds w answer bytes l f r =
     let no : T (not (width_n 8 w)) = not_T (width_n 8 w) (λ t. let b = width-between 2 8 w t in f b.low b.high) in
-    reads-refused (card_n w) ds answer bytes WrongWidth ((refused-3 (card_n w) ds).1 (l, no)) (λ z. omega arith) r
+    reads-refused (card_n w) ds answer bytes (Err WrongWidth) ((refused-3 (card_n w) ds).1 (l, no)) (λ z. omega arith) r
 
 -- past the digits, the reply of the sum at base 2 with the range's end 2^255 is the reader's
 pub sum-reads : (ds : List ℤ) (w : ℕ) (answer : Verdict) (bytes : List ℕ) → Offered (card_n w) ds → first_fault (card_n w) ds 0 (length ds) ≡ Done → SumRead ds 1 true answer bytes → Reads (card_n w) ds answer bytes

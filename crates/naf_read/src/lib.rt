@@ -4,11 +4,13 @@ ghost use Rattle.std.specs.Prelude.{◌≡◌, ◌&&◌, ℕ, ◌-◌, ◌%◌, 
 ghost use Rattle.rules.specs.Forms.{card_n};
 ghost use Rattle.rules.specs.Test.{first_fault, verdict};
 ghost use Rattle.rules.specs.Promises.{Reads};
+ghost use Rattle.rules.specs.Verdicts.{verdict_of};
 ghost use Rattle.rules.specs.inner.Scan.{fault, held_next};
+ghost use Rattle.scalar.specs.Answers.{bytes_of};
 
 use digits::magnitude::magnitude;
-use rules::Verdict;
-use scalar::reply::{Reply, refused};
+use rules::{Refusal, Verdict};
+use scalar::Scalar;
 use sum::read_sum;
 
 // The own rule of a digit that is not zero, by its absolute value.
@@ -24,29 +26,23 @@ fn fault_of(d: i8, i: usize, held: usize, half: u32) -> Verdict
 {
     let m = magnitude(d);
     if m == 0 {
-        return Verdict::Done;
+        return Ok(());
     }
     let kept = odd_below(m, half);
     if !kept {
-        return Verdict::BrokenDigit(i);
+        return Err(Refusal::BrokenDigit(i));
     }
     if held != 0 {
-        return Verdict::Crowded(i);
+        return Err(Refusal::Crowded(i));
     }
-    Verdict::Done
+    Ok(())
 }
 
 // How many digits after d still lie within the gap.
 fn next_held(d: i8, held: usize, gap: usize) -> usize
     ensures { result ≡ held_next gap held d }
 {
-    if magnitude(d) != 0 {
-        return gap;
-    }
-    if held == 0 {
-        return 0;
-    }
-    held - 1
+    if d != 0 { gap } else { held.saturating_sub(1) }
 }
 
 // What is wrong first, from index 0 up.
@@ -55,44 +51,32 @@ fn first_fault(digits: &[i8], w: usize) -> Verdict
     ensures { result ≡ first_fault (card_n w) digits.now 0 (length digits.now) }
 {
     let half: u32 = 1 << (w - 1);
-    let mut i: usize = 0;
     let mut held: usize = 0;
-    while i < digits.len() {
-        let d = digits[i];
-        let fault = fault_of(d, i, held, half);
-        if fault.number() != 0 {
-            return fault;
-        }
-        held = next_held(d, held, w - 1);
-        i += 1;
+    for (i, d) in digits.iter().enumerate() {
+        fault_of(*d, i, held, half)?;
+        held = next_held(*d, held, w - 1);
     }
-    Verdict::Done
+    Ok(())
 }
 
-// The bytes of a string that passes the test; refused, zero bytes.
-pub fn read(digits: &[i8], w: usize) -> Reply
-    ensures { Reads (card_n w) digits.now result.verdict result.scalar.bytes }
+// The scalar of a string that passes the test. The slice stands beside its width, as document 01 and the C interface lend them.
+pub fn read(digits: &[i8], w: usize) -> Result<Scalar, Refusal>
+    ensures { Reads (card_n w) digits.now (verdict_of result) (bytes_of result) }
 {
     if digits.len() != 256 {
-        return refused(Verdict::WrongLength);
+        return Err(Refusal::WrongLength);
     }
-    if w < 2 {
-        return refused(Verdict::WrongWidth);
+    if !(2..=8).contains(&w) {
+        return Err(Refusal::WrongWidth);
     }
-    if 8 < w {
-        return refused(Verdict::WrongWidth);
-    }
-    let fault = first_fault(digits, w);
-    if fault.number() != 0 {
-        return refused(fault);
-    }
+    first_fault(digits, w)?;
     read_sum(digits, 1, true)
 }
 
-// The test: the reader's verdict.
+// The test: the reader's verdict. R's has these two lines over its own reader; `DigitForm::test` makes one of both.
 pub fn test(digits: &[i8], w: usize) -> Verdict
     ensures { result ≡ verdict (card_n w) digits.now }
 {
-    let r = read(digits, w);
-    r.verdict
+    read(digits, w)?;
+    Ok(())
 }

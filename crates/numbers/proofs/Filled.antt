@@ -1,11 +1,11 @@
 -- A list that a loop fills from the front, one place a turn. Assumes nothing.
 use mathlib.Core.Path.{◌≡◌, ◌∙◌}
 use mathlib.Core.List.{List}
-use Prim.Native.Nat.{ℕ, ◌+◌, ◌≤◌, ◌<◌}
+use Prim.Native.Nat.{ℕ, ◌+◌, ◌<◌}
 use native.Mathlib.Omega.{arith}
 use borrow.Author.Count.{below_more}
 use lib.ListN.{length, get_or, set}
-use lib.Seq.{get_or-set_same, get_or-set_other, ext_get_or}
+use lib.Seq.{get_or-set_same, get_or-set_other}
 
 -- the first n elements are those of g
 abbrev pub Filled : {A : Type 0} → A → (ℕ → A) → ℕ → List A → Type 0
@@ -16,7 +16,3 @@ filled_more d g n xs v l f e =
     below_more (λ (i : ℕ). get_or (set xs n v) i d ≡ g i) n
     (λ i h. get_or-set_other xs n i v d (λ p. omega arith) ∙ f i h)
     (get_or-set_same xs n v d l ∙ e)
-
--- filled with the elements of another list of its length, it is that list
-pub filled-all : {A : Type 0} (d : A) (xs out : List A) (n : ℕ) → length out ≡ length xs → length xs ≤ n → Filled d (λ k. get_or xs k d) n out → out ≡ xs
-filled-all d xs out n l h f = ext_get_or d out xs l (λ i m. f i (omega arith))

@@ -8,5 +8,4 @@ pub mod Digits
 pub mod TopDigit
 pub mod Windows
 pub mod Filled
-pub mod Stores
 pub mod Agree

@@ -12,8 +12,7 @@ use lib.ListN.{take}
 use lib.IntN.{ℤ, pos, negsuc, neg_ℤ, nat_abs}
 use Rattle.numbers.specs.Centred.{carried}
 use Rattle.numbers.proofs.Tests.{and_right, cond-true, cond-false}
-use Rattle.rules.specs.declared.Verdict.{Verdict}
-use Rattle.rules.specs.declared.Verdict.TheVariants.{Done}
+use Rattle.rules.specs.Verdicts.{Verdict, Done}
 use Rattle.rules.specs.Integer.{integer, Bytes}
 use Rattle.rules.specs.Digits.{digit_at, is_zero, weighted}
 use Rattle.rules.specs.Widths.{width_r, row}

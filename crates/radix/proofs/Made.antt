@@ -6,7 +6,7 @@ use native.Mathlib.Omega.{arith}
 use lib.Dec.{lit≤}
 use lib.ListN.{set}
 use lib.IntN.{ℤ, pos}
-use Rattle.rules.specs.declared.Verdict.TheVariants.{Done}
+use Rattle.rules.specs.Verdicts.{Done}
 use Rattle.rules.specs.Integer.{integer, Bytes}
 use Rattle.rules.specs.Widths.{row}
 use Rattle.rules.specs.Forms.{card_r}

@@ -1,194 +1,142 @@
 #![tactic(auto)]
 // Runs form R on document 01's figures, the refusals and both sides of each edge, and prints what it answers.
 // The file `stdout` beside src/ was worked out by tools/expect-radix-figures, in Python integers, from the rules and without this library.
-use scalar::Scalar;
+use figures::{begin, edges, every_width, recoding, small, string, topped};
+use forms::FormR;
+use radix::recode::as_radix_16;
 use std::io;
 
-// A reply of a recoder, and its digits tested and read back.
-fn reply(rt: &impl Print, r: radix::recode::Radix, w: usize) -> io::Result<()> {
-    let v = r.verdict;
-    show::verdict(rt, v)?;
-    show::number(rt, r.count as u64)?;
-    show::number(rt, r.additions as u64)?;
-    let d = r.digits;
-    show::string(rt, &d)?;
-    show::text(rt, b"read")?;
-    read_back(rt, &d, w)
-}
-
-// A scalar recoded at a width.
-fn recode(rt: &impl Print, name: &[u8], bytes: [u8; 32], w: usize) -> io::Result<()> {
-    show::text(rt, name)?;
-    show::number(rt, w as u64)?;
-    reply(rt, radix::recode::as_radix_2w(Scalar { bytes }, w), w)
-}
-
-// A digit string tested and read at a width.
-fn read_back(rt: &impl Print, digits: &[i8], w: usize) -> io::Result<()> {
-    show::verdict(rt, radix_read::test(digits, w))?;
-    let r = radix_read::read(digits, w);
-    let v = r.verdict;
-    show::verdict(rt, v)?;
-    let s = r.scalar;
-    let b = s.bytes;
-    show::bytes(rt, &b)?;
-    show::end(rt)
-}
-
-// The first n of 65 digits, all 0 but two.
-fn part(rt: &impl Print, all: &[i8], n: usize, w: usize) -> io::Result<()> {
-    if n > all.len() {
-        return Ok(());
-    }
-    read_back(rt, &all[..n], w)
-}
-
-fn string(rt: &impl Print, n: usize, w: usize, i: usize, d: i8, j: usize, e: i8) -> io::Result<()> {
-    if i > 64 {
-        return Ok(());
-    }
-    if j > 64 {
-        return Ok(());
-    }
-    let mut all = [0i8; 65];
-    all[i] = d;
-    all[j] = e;
-    show::text(rt, b"string")?;
-    show::number(rt, n as u64)?;
-    show::number(rt, w as u64)?;
-    part(rt, &all, n, w)
-}
-
-// A scalar with one byte set.
-fn small(rt: &impl Print, name: &[u8], b: u8, w: usize) -> io::Result<()> {
-    let mut bytes = [0u8; 32];
-    bytes[0] = b;
-    recode(rt, name, bytes, w)
-}
-
+// 01's figures on small scalars, and their neighbours.
 fn small_figures(rt: &impl Print) -> io::Result<()> {
-    small(rt, b"0", 0, 4)?;
-    small(rt, b"7", 7, 4)?;
-    small(rt, b"8", 8, 4)?;
-    small(rt, b"15", 15, 5)?;
-    small(rt, b"16", 16, 5)?;
-    small(rt, b"31", 31, 6)?;
-    small(rt, b"32", 32, 6)?;
-    small(rt, b"63", 63, 7)?;
-    small(rt, b"64", 64, 7)?;
-    small(rt, b"127", 127, 8)?;
-    small(rt, b"128", 128, 8)?;
-    small(rt, b"255", 255, 8)
+    for (name, value, w) in [
+        (b"0" as &[u8], 0, 4),
+        (b"7", 7, 4),
+        (b"8", 8, 4),
+        (b"15", 15, 5),
+        (b"16", 16, 5),
+        (b"31", 31, 6),
+        (b"32", 32, 6),
+        (b"63", 63, 7),
+        (b"64", 64, 7),
+        (b"127", 127, 8),
+        (b"128", 128, 8),
+        (b"255", 255, 8),
+    ] {
+        small::<FormR, _>(rt, name, value, w)?;
+    }
+    Ok(())
 }
 
-// The edges of the two ranges at one width.
-fn edges(rt: &impl Print, w: usize) -> io::Result<()> {
-    let ones = [255u8; 32];
-    let mut below = ones;
-    below[31] = 127;
-    recode(rt, b"2^255-1", below, w)?;
-    let mut half = [0u8; 32];
-    half[31] = 128;
-    recode(rt, b"2^255", half, w)?;
-    recode(rt, b"2^256-1", ones, w)
-}
-
-fn every_width(rt: &impl Print) -> io::Result<()> {
-    edges(rt, 4)?;
-    edges(rt, 5)?;
-    edges(rt, 6)?;
-    edges(rt, 7)?;
-    edges(rt, 8)
-}
-
+// Widths that are not R's.
 fn wrong_widths(rt: &impl Print) -> io::Result<()> {
-    small(rt, b"7", 7, 0)?;
-    edges(rt, 3)?;
-    edges(rt, 9)?;
-    small(rt, b"7", 7, 0x1_0000_0004)?;
-    small(rt, b"7", 7, 0xFFFF_FFFF_FFFF_FFFF)
+    small::<FormR, _>(rt, b"7", 7, 0)?;
+    for w in [3, 9] {
+        edges::<FormR, _>(rt, w)?;
+    }
+    for w in [0x1_0000_0004, 0xFFFF_FFFF_FFFF_FFFF] {
+        small::<FormR, _>(rt, b"7", 7, w)?;
+    }
+    Ok(())
 }
 
 // The entry of its own for radix 16.
 fn sixteen(rt: &impl Print) -> io::Result<()> {
-    let ones = [255u8; 32];
-    let mut below = ones;
-    below[31] = 127;
-    show::text(rt, b"radix16")?;
-    reply(rt, radix::recode::as_radix_16(Scalar { bytes: below }), 4)?;
-    show::text(rt, b"radix16")?;
-    reply(rt, radix::recode::as_radix_16(Scalar { bytes: ones }), 4)
+    for top in [127, 255] {
+        show::text(rt, b"radix16")?;
+        recoding::<FormR, _>(rt, as_radix_16(topped(255, top)), 4)?;
+    }
+    Ok(())
 }
 
-// A width's row.
+// A width's row; the row of a refused width is zeros.
 fn row(rt: &impl Print, w: usize) -> io::Result<()> {
-    show::text(rt, b"shape")?;
-    show::number(rt, w as u64)?;
-    let r = shape::shape(w);
-    let v = r.verdict;
-    show::verdict(rt, v)?;
-    show::number(rt, r.digits as u64)?;
-    show::number(rt, r.top as u64)?;
-    show::number(rt, r.bits as u64)?;
+    begin(rt, b"shape", w)?;
+    let row = shape::shape(w);
+    show::verdict(rt, row.and(Ok(())))?;
+    let (digits, top, bits) = match row {
+        Ok(row) => (row.digits, row.top, row.bits),
+        Err(_) => (0, 0, 0),
+    };
+    show::number(rt, digits as u64)?;
+    show::number(rt, top as u64)?;
+    show::number(rt, bits as u64)?;
     show::end(rt)
 }
 
+// The rows of every width, and of widths that are not R's.
 fn rows(rt: &impl Print) -> io::Result<()> {
-    row(rt, 0)?;
-    row(rt, 3)?;
-    row(rt, 4)?;
-    row(rt, 5)?;
-    row(rt, 6)?;
-    row(rt, 7)?;
-    row(rt, 8)?;
-    row(rt, 9)?;
-    row(rt, 0x1_0000_0008)
+    for w in [0, 3, 4, 5, 6, 7, 8, 9, 0x1_0000_0008] {
+        row(rt, w)?;
+    }
+    Ok(())
 }
 
-// 01's figures on strings, and their neighbours.
-fn strings(rt: &impl Print) -> io::Result<()> {
-    string(rt, 64, 5, 0, 16, 1, 0)?;
-    string(rt, 64, 5, 0, 15, 1, 0)?;
-    string(rt, 64, 5, 0, -16, 1, 1)?;
-    string(rt, 64, 5, 0, -17, 1, 1)?;
-    string(rt, 64, 5, 51, 3, 0, 0)?;
-    string(rt, 64, 5, 52, 1, 0, 0)?;
-    string(rt, 64, 5, 51, 2, 0, 0)?;
-    string(rt, 64, 5, 0, -1, 51, 2)?;
-    string(rt, 64, 5, 51, 1, 0, 0)?;
-    string(rt, 64, 5, 51, -1, 0, 0)?;
-    string(rt, 64, 5, 0, -1, 0, -1)?;
-    string(rt, 64, 4, 63, 8, 0, 0)?;
-    string(rt, 64, 4, 63, 8, 0, -1)?;
-    string(rt, 64, 4, 63, 9, 0, -1)?;
-    string(rt, 64, 4, 62, -8, 63, 8)?;
-    string(rt, 64, 8, 32, 1, 0, 0)?;
-    string(rt, 64, 8, 32, 1, 31, -128)?;
-    string(rt, 64, 8, 32, 2, 31, -128)?;
-    string(rt, 64, 8, 33, 1, 0, 0)?;
-    string(rt, 64, 8, 63, -1, 32, 1)?;
-    string(rt, 64, 6, 42, 16, 0, -1)?;
-    string(rt, 64, 6, 42, 16, 0, 0)?;
-    string(rt, 64, 7, 36, 16, 0, -1)?;
-    string(rt, 64, 7, 36, 17, 0, -1)?;
-    string(rt, 64, 7, 0, 64, 52, 1)
+// 01's figures on strings at widths 4 and 5, and their neighbours.
+fn narrow_strings(rt: &impl Print) -> io::Result<()> {
+    for (w, named) in [
+        (5, [(0, 16), (1, 0)]),
+        (5, [(0, 15), (1, 0)]),
+        (5, [(0, -16), (1, 1)]),
+        (5, [(0, -17), (1, 1)]),
+        (5, [(51, 3), (0, 0)]),
+        (5, [(52, 1), (0, 0)]),
+        (5, [(51, 2), (0, 0)]),
+        (5, [(0, -1), (51, 2)]),
+        (5, [(51, 1), (0, 0)]),
+        (5, [(51, -1), (0, 0)]),
+        (5, [(0, -1), (1, 0)]),
+        (4, [(63, 8), (0, 0)]),
+        (4, [(63, 8), (0, -1)]),
+        (4, [(63, 9), (0, -1)]),
+        (4, [(62, -8), (63, 8)]),
+    ] {
+        string::<FormR, _>(rt, 64, w, &named)?;
+    }
+    Ok(())
 }
 
+// And at the wider ones.
+fn wide_strings(rt: &impl Print) -> io::Result<()> {
+    for (w, named) in [
+        (8, [(32, 1), (0, 0)]),
+        (8, [(32, 1), (31, -128)]),
+        (8, [(32, 2), (31, -128)]),
+        (8, [(33, 1), (0, 0)]),
+        (8, [(63, -1), (32, 1)]),
+        (6, [(42, 16), (0, -1)]),
+        (6, [(42, 16), (0, 0)]),
+        (7, [(36, 16), (0, -1)]),
+        (7, [(36, 17), (0, -1)]),
+        (7, [(0, 64), (52, 1)]),
+    ] {
+        string::<FormR, _>(rt, 64, w, &named)?;
+    }
+    Ok(())
+}
+
+// Lengths that are not R's, and widths that are not.
 fn wrong_lengths(rt: &impl Print) -> io::Result<()> {
-    string(rt, 0, 5, 0, 0, 0, 0)?;
-    string(rt, 63, 5, 0, 1, 0, 1)?;
-    string(rt, 65, 5, 0, 1, 0, 1)?;
-    string(rt, 64, 3, 0, 1, 0, 1)?;
-    string(rt, 64, 9, 0, 1, 0, 1)?;
-    string(rt, 63, 9, 0, 1, 0, 1)
+    for (n, w, d) in [
+        (0, 5, 0),
+        (63, 5, 1),
+        (65, 5, 1),
+        (64, 3, 1),
+        (64, 9, 1),
+        (63, 9, 1),
+    ] {
+        string::<FormR, _>(rt, n, w, &[(0, d)])?;
+    }
+    Ok(())
 }
 
+// All of them, in the order of `stdout`.
 fn main(rt: HostRuntime) -> io::Result<()> {
     small_figures(&rt)?;
-    every_width(&rt)?;
+    every_width::<FormR, _>(&rt, 4)?;
     wrong_widths(&rt)?;
     sixteen(&rt)?;
     rows(&rt)?;
-    strings(&rt)?;
+    narrow_strings(&rt)?;
+    wide_strings(&rt)?;
     wrong_lengths(&rt)
 }

@@ -1,11 +1,11 @@
 -- R's digit rule as a test on a digit's distance from -128, an unsigned number. Assumes nothing.
-use mathlib.Core.Path.{◌≡◌, refl, ◌∙◌, ap, ap₂}
+use mathlib.Core.Path.{◌≡◌, refl, ap, ap₂}
 use mathlib.Core.Logic.{◌⊎◌, inl, inr}
-use mathlib.Core.Bool.{Bool, true, false, ◌&&◌, and-false}
+use mathlib.Core.Bool.{Bool, true, false, ◌&&◌}
 use Prim.Native.Nat.{ℕ, zero, suc, ◌+◌, ◌-◌, ◌^◌, ◌≤◌, ◌<◌}
 use native.Mathlib.Omega.{arith}
 use borrow.Author.Tests.{lt-ltb, le-ltb, eq-eqb, ne_eqb}
-use lib.Dec.{T, leb, leb→le, le→leb, leb-suc-zero, eqb-suc-zero}
+use lib.Dec.{T, leb, eqb, leb→le, le→leb, eqb-suc-zero}
 use lib.Pow.{pow_pos}
 use lib.IntN.{ℤ, pos, negsuc, neg_ℤ, ◌+ℤ◌}
 use lib.Signed.{le_z}
@@ -42,11 +42,11 @@ part-high : (H : ℕ) (d : ℤ) → up d ≤ H → T (le_z d (pos H))
 part-high H (pos a) l = le→leb a H l
 part-high H (negsuc a) l = tt
 
--- from 0 to 0 is 0
-zero-only : (d : ℤ) → within (pos 0) (pos 0) d ≡ is_zero d
-zero-only (pos zero) = refl
-zero-only (pos (suc n)) = rw (leb-suc-zero, eqb-suc-zero, and-false)
-zero-only (negsuc n) = rw eqb-suc-zero
+-- a digit is 0 where its distance from -128 is 128
+zero-at : (d : ℤ) (e : ℕ) → e + dn d ≡ up d + 128 → eqb e 128 ≡ is_zero d
+zero-at (pos zero) e r = eq-eqb e 128 (omega (arith, r))
+zero-at (pos (suc n)) e r = rw (ne_eqb e 128 (λ z. omega (arith, r)), eqb-suc-zero)
+zero-at (negsuc n) e r = rw (ne_eqb e 128 (λ z. omega (arith, r)), eqb-suc-zero)
 
 module _ (d : ℤ) (e : ℕ) (q : pos e ≡ d +ℤ pos 128) where
   raised : e + dn d ≡ up d + 128
@@ -87,6 +87,6 @@ module _ (d : ℤ) (e : ℕ) (q : pos e ≡ d +ℤ pos 128) where
     unfolding digit_r
     at_last k = rw (le-ltb (i + 1) n (omega arith), eq-eqb (i + 1) n k) (offset-within 0 top (omega arith))
 
-    pub past-last : n < i + 1 → leb 128 e && leb e 128 ≡ digit_r w n top i d
+    pub past-last : n < i + 1 → eqb e 128 ≡ digit_r w n top i d
     unfolding digit_r
-    past-last k = rw (le-ltb (i + 1) n (omega arith), ne_eqb (i + 1) n (λ z. omega arith)) (offset-within 0 0 (omega arith) ∙ zero-only d)
+    past-last k = rw (le-ltb (i + 1) n (omega arith), ne_eqb (i + 1) n (λ z. omega arith)) (zero-at d e raised)

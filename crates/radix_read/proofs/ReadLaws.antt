@@ -1,29 +1,27 @@
--- R's reader: what is wrong with a digit, a wrong width, the sum's reply, and the laws over a form, for R. Assumes nothing.
-use mathlib.Core.Path.{◌≡◌, refl, sym, ◌∙◌, ap}
-use mathlib.Core.Logic.{◌≢◌}
-use mathlib.Core.Bool.{Bool, true, false, not, cond, or-true}
+-- R's reader: what is wrong with a digit, the sum's reply, and the laws over a form, for R. Assumes nothing.
+use mathlib.Core.Path.{◌≡◌, refl, sym, ◌∙◌}
+use mathlib.Core.Bool.{Bool, true, false, cond, or-true}
 use mathlib.Core.List.{List}
 use Prim.Native.Nat.{ℕ, ◌*◌, ◌^◌}
 use native.Mathlib.Omega.{arith}
 use borrow.Author.Tests.{le-leb}
-use lib.Dec.{T, leb, eqb, not_T}
+use lib.Dec.{T, leb, eqb}
 use lib.ListN.{length, take}
 use lib.Seq.{length-take-le}
 use lib.IntN.{ℤ}
-use Rattle.rules.specs.declared.Verdict.{Verdict}
-use Rattle.rules.specs.declared.Verdict.TheVariants.{Done, WrongWidth, BrokenDigit}
+use Rattle.rules.specs.declared.Refusal.TheVariants.{BrokenDigit}
+use Rattle.std.specs.Prelude.{Err}
 use Rattle.rules.specs.Integer.{Bytes}
 use Rattle.rules.specs.Digits.{is_zero, weighted}
 use Rattle.rules.specs.Widths.{width_r, row}
 use Rattle.rules.specs.Forms.{card_r, digit_r}
-use Rattle.rules.specs.Verdicts.{number, unless, ◌or_else◌}
+use Rattle.rules.specs.Verdicts.{Verdict, Done, unless, ◌or_else◌}
 use Rattle.rules.specs.Test.{first_fault, verdict}
 use Rattle.rules.specs.Refusals.{Offered}
 use Rattle.rules.specs.Promises.{Recodes, Reads}
-use Rattle.rules.proofs.Verdicts.{number-zero, done-or_else, refused-or_else, unless-held, unless-failed, unless-done}
+use Rattle.rules.proofs.Verdicts.{done-or_else, refused-or_else}
 use Rattle.rules.specs.inner.Scan.{fault, held_next}
 use Rattle.rules.proofs.FirstFault.{first-keeps}
-use Rattle.rules.proofs.Refusals.{refused-3}
 use Rattle.rules.proofs.Reading.{reads-summed, reads-determined}
 use Rattle.rules.proofs.Promises.{test-passes, round_trip, read_back}
 use Rattle.rules.proofs.Exactly.{lawful-card-r}
@@ -38,7 +36,7 @@ fault-r w i d = rw (or-true (is_zero d)) (go (digit_r w (row w).digits (row w).t
   where
     go : (b : Bool) → unless b (BrokenDigit i) or_else Done ≡ unless b (BrokenDigit i)
     go true = done-or_else Done
-    go false = refused-or_else (BrokenDigit i) Done (λ z. omega arith)
+    go false = refused-or_else (Err (BrokenDigit i)) Done (λ z. omega arith)
 
 -- a digit tested as r: what is wrong with it
 pub tested-r : (w n top : ℕ) (i : ℕ) (d : ℤ) (r : Bool) → n ≡ (row w).digits → top ≡ (row w).top → r ≡ digit_r w n top i d → unless r (BrokenDigit i) ≡ fault (card_r w) i 0 d
@@ -56,17 +54,6 @@ held-r w d = go (is_zero d)
 pub few_bits : (w : ℕ) → T (width_r w) → T (leb (w * (row w).digits) 264)
 unfolding row
 few_bits = at-widths (λ w. T (leb (w * (row w).digits) 264)) tt tt tt tt tt
-
--- ---- the width: the verdict of its row
-
-module _ (w : ℕ) (ds : List ℤ) (v : Verdict) (e : v ≡ unless (width_r w) WrongWidth) where
-  pub width-allowed : number v ≡ 0 → T (width_r w)
-  width-allowed z = unless-done (width_r w) WrongWidth (λ n. omega arith) (sym e ∙ number-zero v z)
-
-  pub width-refused : length ds ≡ 64 → number v ≢ 0 → verdict (card_r w) ds ≡ v
-  width-refused l n =
-      let no : T (not (width_r w)) = not_T (width_r w) (λ t. n (ap number (e ∙ unless-held (width_r w) WrongWidth t))) in
-      (refused-3 (card_r w) ds).1 (l, no) ∙ sym (e ∙ unless-failed (width_r w) WrongWidth no)
 
 -- ---- the sum
 

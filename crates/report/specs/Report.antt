@@ -1,7 +1,7 @@
 -- 01, "The program": the whole report of an input. Assumes nothing.
-use Rattle.std.specs.Prelude.{ℕ, ◌-◌, ◌≡◌, ◌≢◌, List, ◌++◌, length, get_or, drop, replicate, ℤ}
+use Rattle.std.specs.Prelude.{ℕ, ◌-◌, ◌≡◌, ◌≢◌, List, ◌++◌, length, get_or, drop, replicate, ℤ, Err}
 use Prim.Native.Char.{code}
-use Rattle.rules.specs.declared.Verdict.TheVariants.{WrongLength, WrongForm}
+use Rattle.rules.specs.declared.Refusal.TheVariants.{WrongLength, WrongForm}
 use Rattle.rules.specs.Forms.{Form, card_n, card_r}
 use Rattle.rules.specs.Promises.{due, Recodes}
 use Rattle.report.specs.Text.{fixed_line, refused_line, answer_lines}
@@ -36,8 +36,8 @@ pub record LinesOf (letter : ℕ) (F : ℕ → Form) (bytes : List ℕ) (w : ℕ
 
 -- The lines after the fixed one, tried in the order 1, 2, and then the form's 3 and 4.
 pub record Lines (input lines : List ℕ) : Type 0 where
-  pub wrong-length : length input ≢ 34 → lines ≡ refused_line WrongLength
-  pub wrong-form : length input ≡ 34 → letter_of input ≢ letter_n → letter_of input ≢ letter_r → lines ≡ refused_line WrongForm
+  pub wrong-length : length input ≢ 34 → lines ≡ refused_line (Err WrongLength)
+  pub wrong-form : length input ≡ 34 → letter_of input ≢ letter_n → letter_of input ≢ letter_r → lines ≡ refused_line (Err WrongForm)
   pub form-n : length input ≡ 34 → letter_of input ≡ letter_n → LinesOf letter_n card_n (scalar_of input) (width_of input) lines
   pub form-r : length input ≡ 34 → letter_of input ≡ letter_r → LinesOf letter_r card_r (scalar_of input) (width_of input) lines
 

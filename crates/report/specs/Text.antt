@@ -1,8 +1,7 @@
 -- 01, "The program": the lines of a report, as the bytes that are written. Assumes nothing.
 use Rattle.std.specs.Prelude.{ℕ, suc, ◌+◌, ◌/◌, ◌%◌, cond, List, [], ◌∷◌, ◌++◌, ltb, eqb, ℤ, pos, negsuc}
-use Rattle.rules.specs.declared.Verdict.{Verdict}
 use Rattle.rules.specs.Digits.{is_zero}
-use Rattle.rules.specs.Verdicts.{number}
+use Rattle.rules.specs.Verdicts.{Verdict, number}
 use Rattle.report.specs.Ascii.{ascii}
 
 -- A number below 1000 in decimal; no number of a report is larger.

@@ -1,139 +1,148 @@
-// The lines of a report, written into a lent buffer from one place up; each function hands back the place after its text.
-ghost use Rattle.std.specs.Prelude.{◌+◌, ◌*◌, ◌<◌, ◌≤◌, [], ◌∷◌, length};
-ghost use Rattle.report.specs.inner.Put.{Put};
+// The text of a report as it grows, and the lines that are put at its end.
+ghost use Rattle.std.specs.Prelude.{◌≡◌, ◌-◌, ◌*◌, ◌<◌, ◌≤◌, [], ◌++◌, length, replicate};
+ghost use Rattle.report.specs.inner.Room.{HasRoom};
 ghost use Rattle.report.specs.Text.{decimal, signed_decimal, fixed_line, form_line, digit_line, digit_lines, refused_line, answer_lines};
 
-use digits::magnitude::magnitude;
-use rules::Verdict;
+use crate::{Output, SIZE};
+use digits::recoding::Recoding;
+use itoa::Buffer;
+use rules::Refusal;
+use std::marker::Model;
 
-// One byte.
-fn put_byte(buf: &mut [u8], at: usize, b: u8) -> usize
-    requires { at < length buf.old }
-    ensures { Put buf.old at (b ∷ []) buf.new result }
-{
-    buf[at] = b;
-    at + 1
+// The text so far is the first `len` bytes, and those past it are 0.
+// A type of its own and no `Output`: its Model is the text alone, which the methods' clauses speak of, while a reader of `Output` sees the array.
+#[derive(Drop)]
+pub struct Text {
+    bytes: [u8; SIZE],
+    len: usize,
 }
 
-// A text, byte for byte.
-fn put_bytes(buf: &mut [u8], at: usize, t: &[u8]) -> usize
-    requires { at + length t.now ≤ length buf.old }
-    ensures { Put buf.old at t.now buf.new result }
-{
-    let mut i: usize = 0;
-    while i < t.len() {
-        buf[at + i] = t[i];
-        i += 1;
+// Clauses see the text so far.
+impl Model for Text {
+    ghost use Rattle.std.specs.Prelude.{◌≡◌, ◌-◌, ◌≤◌, ℕ, List, take, drop, replicate};
+    ghost use Rattle.report.specs.declared.TheConstants.{SIZE};
+
+    ghost Value = { List ℕ };
+
+    ghost view = { λ t. take t.len t.bytes };
+
+    ghost invariant = { λ t. (t.len ≤ SIZE) × (drop t.len t.bytes ≡ replicate (SIZE - t.len) 0) };
+}
+
+#[tactic(auto, using(crate::proofs::TextLaws::texts), unfolding(crate::specs::Text::fixed_line, crate::specs::Text::digit_line, crate::specs::Text::digit_lines, crate::specs::Text::refused_line, crate::specs::Ascii::ascii))]
+impl Text {
+    // No text yet.
+    pub fn new() -> Self
+        ensures { result ≡ [] }
+    {
+        Text {
+            bytes: [0; SIZE],
+            len: 0,
+        }
     }
-    at + i
-}
 
-// A number below 1000 in decimal.
-fn put_number(buf: &mut [u8], at: usize, n: u32) -> usize
-    requires { (n < 1000) × (at + 3 ≤ length buf.old) }
-    ensures { Put buf.old at (decimal n) buf.new result }
-{
-    if n < 10 {
-        return put_byte(buf, at, (48 + n) as u8);
+    // The report that has this text.
+    pub fn finish(self) -> Output
+        ensures bytes { result.bytes ≡ self ++ replicate (SIZE - result.len) 0 }
+        ensures len { result.len ≡ length self }
+    {
+        let Text { bytes, len } = self;
+        Output { bytes, len }
     }
-    if n < 100 {
-        let units = put_byte(buf, at, (48 + n / 10) as u8);
-        return put_byte(buf, units, (48 + n % 10) as u8);
+
+    // A text, byte for byte.
+    fn push(&mut self, t: &[u8])
+        requires { HasRoom (length t.now) self.old }
+        ensures { self.new ≡ self.old ++ t.now }
+    {
+        let end = self.len + t.len();
+        self.bytes[self.len..end].copy_from_slice(t);
+        self.len = end;
     }
-    let tens = put_byte(buf, at, (48 + n / 100) as u8);
-    let units = put_byte(buf, tens, (48 + n / 10 % 10) as u8);
-    put_byte(buf, units, (48 + n % 10) as u8)
-}
 
-// A digit in decimal, with a minus sign if it is negative.
-fn put_digit(buf: &mut [u8], at: usize, d: i8) -> usize
-    requires { at + 4 ≤ length buf.old }
-    ensures { Put buf.old at (signed_decimal d) buf.new result }
-{
-    let size = magnitude(d);
-    if d < 0 {
-        let next = put_bytes(buf, at, b"-");
-        return put_number(buf, next, size);
+    // A number below 1000 in decimal.
+    // It is written by `itoa`: what `write!` ensures leaves an `Err` open, a `String` may run out of memory, and a report has to be made.
+    fn number(&mut self, n: usize)
+        requires { (n < 1000) × HasRoom 3 self.old }
+        ensures { self.new ≡ self.old ++ decimal n }
+    {
+        self.push(Buffer::new().format(n).as_bytes());
     }
-    put_number(buf, at, size)
-}
 
-// A digit's line: its index and the digit. A digit that is 0 has none.
-fn put_digit_line(buf: &mut [u8], at: usize, i: usize, d: i8) -> usize
-    requires { (i < 1000) × (at + 9 ≤ length buf.old) }
-    ensures { Put buf.old at (digit_line i d) buf.new result }
-{
-    if d == 0 {
-        return at;
+    // A digit in decimal, with a minus sign if it is negative.
+    fn digit(&mut self, d: i8)
+        requires { HasRoom 4 self.old }
+        ensures { self.new ≡ self.old ++ signed_decimal d }
+    {
+        self.push(Buffer::new().format(d).as_bytes());
     }
-    let index = put_number(buf, at, i as u32);
-    let space = put_bytes(buf, index, b" ");
-    let digit = put_digit(buf, space, d);
-    put_bytes(buf, digit, b"\n")
-}
 
-// The lines of the digits, from index 0 up.
-fn put_digit_lines(buf: &mut [u8], at: usize, digits: &[i8]) -> usize
-    requires { (length digits.now ≤ 256) × (at + 9 * length digits.now ≤ length buf.old) }
-    ensures { Put buf.old at (digit_lines 0 digits.now) buf.new result }
-{
-    let mut next = at;
-    let mut i: usize = 0;
-    while i < digits.len() {
-        next = put_digit_line(buf, next, i, digits[i]);
-        i += 1;
+    // A digit's line: its index and the digit. A digit that is 0 has none.
+    fn digit_line(&mut self, i: usize, d: i8)
+        requires { (i < 1000) × HasRoom 9 self.old }
+        ensures { self.new ≡ self.old ++ digit_line i d }
+    {
+        if d != 0 {
+            self.number(i);
+            self.push(b" ");
+            self.digit(d);
+            self.push(b"\n");
+        }
     }
-    next
-}
 
-// The fixed line that every report begins with.
-pub fn put_fixed_line(buf: &mut [u8], at: usize) -> usize
-    requires { at + 14 ≤ length buf.old }
-    ensures { Put buf.old at fixed_line buf.new result }
-{
-    put_bytes(buf, at, b"card-digits 1\n")
-}
-
-// The form line: the form's letter, the width and the count.
-fn put_form_line(buf: &mut [u8], at: usize, letter: u8, w: usize, count: usize) -> usize
-    requires { (w < 1000) × (count < 1000) × (at + 32 ≤ length buf.old) }
-    ensures { Put buf.old at (form_line letter w count) buf.new result }
-{
-    let form = put_bytes(buf, at, b"form ");
-    let named = put_byte(buf, form, letter);
-    let width = put_bytes(buf, named, b" width ");
-    let wide = put_number(buf, width, w as u32);
-    let counted = put_bytes(buf, wide, b" count ");
-    let last = put_number(buf, counted, count as u32);
-    put_bytes(buf, last, b"\n")
-}
-
-// The line of a refusal.
-pub fn put_refused_line(buf: &mut [u8], at: usize, v: Verdict) -> usize
-    requires { at + 16 ≤ length buf.old }
-    ensures { Put buf.old at (refused_line v) buf.new result }
-{
-    let refused = put_bytes(buf, at, b"refused ");
-    let number = put_number(buf, refused, v.number() as u32);
-    put_bytes(buf, number, b"\n")
-}
-
-// The lines after the fixed one: those of a refusal, or the form line and the digits.
-pub fn put_answer(
-    buf: &mut [u8],
-    at: usize,
-    letter: u8,
-    w: usize,
-    v: Verdict,
-    count: usize,
-    digits: &[i8],
-) -> usize
-    requires { (w < 1000) × (count < 1000) × (length digits.now ≤ 256) × (at + 2400 ≤ length buf.old) }
-    ensures { Put buf.old at (answer_lines letter w v count digits.now) buf.new result }
-{
-    if v.number() != 0 {
-        return put_refused_line(buf, at, v);
+    // The lines of the digits, from index 0 up.
+    fn digit_lines(&mut self, digits: &[i8])
+        requires { (length digits.now ≤ 256) × HasRoom (9 * length digits.now) self.old }
+        ensures { self.new ≡ self.old ++ digit_lines 0 digits.now }
+    {
+        for (i, &d) in digits.iter().enumerate() {
+            self.digit_line(i, d);
+        }
     }
-    let next = put_form_line(buf, at, letter, w, count);
-    put_digit_lines(buf, next, digits)
+
+    // The fixed line that every report begins with.
+    pub fn fixed_line(&mut self)
+        requires { HasRoom 14 self.old }
+        ensures { self.new ≡ self.old ++ fixed_line }
+    {
+        self.push(b"card-digits 1\n");
+    }
+
+    // The form line: the form's letter, the width and the count.
+    fn form_line(&mut self, letter: u8, w: usize, count: usize)
+        requires { (w < 1000) × (count < 1000) × HasRoom 32 self.old }
+        ensures { self.new ≡ self.old ++ form_line letter w count }
+    {
+        self.push(b"form ");
+        self.push(&[letter]);
+        self.push(b" width ");
+        self.number(w);
+        self.push(b" count ");
+        self.number(count);
+        self.push(b"\n");
+    }
+
+    // The line of a refusal.
+    pub fn refused_line(&mut self, refusal: Refusal)
+        requires { HasRoom 16 self.old }
+        ensures { self.new ≡ self.old ++ refused_line (Err refusal) }
+    {
+        self.push(b"refused ");
+        self.number(refusal.number() as usize);
+        self.push(b"\n");
+    }
+
+    // The lines after the fixed one: those of a refusal, or the form line and the digits.
+    pub fn answer<const LEN: usize>(&mut self, letter: u8, w: usize, made: &Recoding<LEN>)
+        requires { (w < 1000) × (made.now.count < 1000) × (LEN ≤ 256) × HasRoom 2400 self.old }
+        ensures { self.new ≡ self.old ++ answer_lines letter w made.now.verdict made.now.count made.now.digits }
+    {
+        match made.verdict {
+            Ok(()) => {
+                self.form_line(letter, w, made.count);
+                self.digit_lines(&made.digits);
+            }
+            Err(refusal) => self.refused_line(refusal),
+        }
+    }
 }

@@ -11,11 +11,12 @@ use lib.Dec.{T, ltb, lt→ltb}
 use lib.ListN.{length, take, drop, length-drop}
 use lib.Seq.{get_or-take, get_or-drop, length-take-le, take-length}
 use lib.IntN.{ℤ, pos}
-use Rattle.rules.specs.declared.Verdict.TheVariants.{Done, BrokenDigit, Crowded}
+use Rattle.rules.specs.declared.Refusal.TheVariants.{BrokenDigit, Crowded}
+use Rattle.std.specs.Prelude.{Err}
 use Rattle.rules.specs.Digits.{digit_at, is_zero, non_zeros}
 use Rattle.rules.specs.Forms.{Form}
 use Rattle.rules.specs.Keeps.{Keeps}
-use Rattle.rules.specs.Verdicts.{number, ◌or_else◌}
+use Rattle.rules.specs.Verdicts.{Done, number, ◌or_else◌}
 use Rattle.rules.specs.Test.{crowded, fault_at, first_fault}
 use Rattle.rules.specs.Refusals.{BreaksAt, CrowdsAt}
 use Rattle.rules.specs.inner.Scan.{scan}
@@ -94,19 +95,19 @@ module _ (F : Form) (ds : List ℤ) where
   pub keeps-first : Keeps F ds → first_fault F ds 0 (length ds) ≡ Done
   keeps-first q = first-none 0 (length ds) (λ j h. kept_fine (length ds) j (rw (take-length ds) q) (omega arith) (omega arith))
 
-  pub breaks-first : (k : ℕ) → BreaksAt F ds k → first_fault F ds 0 (length ds) ≡ BrokenDigit k
+  pub breaks-first : (k : ℕ) → BreaksAt F ds k → first_fault F ds 0 (length ds) ≡ Err (BrokenDigit k)
   unfolding fault_at
   breaks-first k q =
-      let e : fault_at F ds k ≡ BrokenDigit k = rw (unless-failed (F.own k (digit_at ds k)) (BrokenDigit k) q.broken) (refused-or_else (BrokenDigit k) _ (λ z. omega arith)) in
+      let e : fault_at F ds k ≡ Err (BrokenDigit k) = rw (unless-failed (F.own k (digit_at ds k)) (BrokenDigit k) q.broken) (refused-or_else (Err (BrokenDigit k)) _ (λ z. omega arith)) in
       let l = q.inside in
       first-at k 0 (length ds) (λ j h. kept_fine k j q.below (omega arith) h) (λ z. omega (arith, ap number e)) (omega arith) (omega arith) ∙ e
 
-  pub crowds-first : (k : ℕ) → CrowdsAt F ds k → first_fault F ds 0 (length ds) ≡ Crowded k
+  pub crowds-first : (k : ℕ) → CrowdsAt F ds k → first_fault F ds 0 (length ds) ≡ Err (Crowded k)
   unfolding fault_at
   crowds-first k q =
       let (j, a, b, f) = q.follows in
       let l = q.inside in
-      let e : fault_at F ds k ≡ Crowded k = rw (unless-held (F.own k (digit_at ds k)) (BrokenDigit k) q.kept, unless-failed (not (crowded F.gap ds k)) (Crowded k) (double (crowded F.gap ds k) (crowds F.gap ds k j l q.nonzero a b f))) (done-or_else (Crowded k)) in
+      let e : fault_at F ds k ≡ Err (Crowded k) = rw (unless-held (F.own k (digit_at ds k)) (BrokenDigit k) q.kept, unless-failed (not (crowded F.gap ds k)) (Crowded k) (double (crowded F.gap ds k) (crowds F.gap ds k j l q.nonzero a b f))) (done-or_else (Err (Crowded k))) in
       first-at k 0 (length ds) (λ j h. kept_fine k j q.below (omega arith) h) (λ z. omega (arith, ap number e)) (omega arith) (omega arith) ∙ e
     where
       double : (b : Bool) → T b → T (not (not b))
@@ -117,8 +118,8 @@ module _ (F : Form) (ds : List ℤ) where
 
   pub data Found : Type 0 where
     nothing : Keeps F ds → first_fault F ds 0 (length ds) ≡ Done → Found
-    broken : (k : ℕ) → BreaksAt F ds k → first_fault F ds 0 (length ds) ≡ BrokenDigit k → Found
-    crowd : (k : ℕ) → CrowdsAt F ds k → first_fault F ds 0 (length ds) ≡ Crowded k → Found
+    broken : (k : ℕ) → BreaksAt F ds k → first_fault F ds 0 (length ds) ≡ Err (BrokenDigit k) → Found
+    crowd : (k : ℕ) → CrowdsAt F ds k → first_fault F ds 0 (length ds) ≡ Err (Crowded k) → Found
 
   pub found : Found
   found = go (view F 0 0 ds)

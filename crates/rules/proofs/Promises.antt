@@ -8,13 +8,13 @@ use native.Mathlib.Omega.{arith}
 use lib.Dec.{T, T_not, not_T}
 use lib.ListN.{length, replicate, length-replicate}
 use lib.IntN.{ℤ, pos}
-use Rattle.rules.specs.declared.Verdict.{Verdict}
-use Rattle.rules.specs.declared.Verdict.TheVariants.{Done, WrongLength, WrongForm, WrongWidth, TooWide, BrokenDigit, Crowded, Negative, PastEnd, WrongChoice}
+use Rattle.rules.specs.declared.Refusal.TheVariants.{WrongLength, WrongForm, WrongWidth, TooWide, BrokenDigit, Crowded, Negative, PastEnd, WrongChoice}
+use Rattle.std.specs.Prelude.{Ok, Err}
 use Rattle.rules.specs.Integer.{integer, Bytes}
 use Rattle.rules.specs.Digits.{weighted}
 use Rattle.rules.specs.Forms.{Form}
 use Rattle.rules.specs.Keeps.{Passes, Takes}
-use Rattle.rules.specs.Verdicts.{number, unless}
+use Rattle.rules.specs.Verdicts.{Verdict, Done, number, unless}
 use Rattle.rules.specs.Test.{verdict}
 use Rattle.rules.specs.Refusals.{DueIf, DueAt}
 use Rattle.rules.specs.Promises.{due, Recoded, Recodes, Reads}
@@ -119,28 +119,28 @@ module _ (F : Form) (lawful : T F.allowed → Lawful F) where
           outside a = let r = (lawful a).roomy bytes b in (λ t. at_least (λ l. T_not (F.room bytes) t (r.1 l)), λ l. not_T (F.room bytes) (λ t. let h = r.0 t in omega arith))
 
           to : (v : Verdict) → DueIf F bytes v → DueAt F (integer bytes) v
-          to Done h = (h.0, ((lawful h.0).roomy bytes b).0 h.1)
-          to WrongLength h = h
-          to WrongForm h = h
-          to WrongWidth h = h
-          to TooWide h = (h.0, (outside h.0).0 h.1)
-          to (BrokenDigit k) h = h
-          to (Crowded k) h = h
-          to Negative h = h
-          to PastEnd h = h
-          to WrongChoice h = h
+          to (Ok done) h = (h.0, ((lawful h.0).roomy bytes b).0 h.1)
+          to (Err WrongLength) h = h
+          to (Err WrongForm) h = h
+          to (Err WrongWidth) h = h
+          to (Err TooWide) h = (h.0, (outside h.0).0 h.1)
+          to (Err (BrokenDigit k)) h = h
+          to (Err (Crowded k)) h = h
+          to (Err Negative) h = h
+          to (Err PastEnd) h = h
+          to (Err WrongChoice) h = h
 
           from : (v : Verdict) → DueAt F (integer bytes) v → DueIf F bytes v
-          from Done h = (h.0, ((lawful h.0).roomy bytes b).1 h.1)
-          from WrongLength h = h
-          from WrongForm h = h
-          from WrongWidth h = h
-          from TooWide h = (h.0, (outside h.0).1 h.1)
-          from (BrokenDigit k) h = h
-          from (Crowded k) h = h
-          from Negative h = h
-          from PastEnd h = h
-          from WrongChoice h = h
+          from (Ok done) h = (h.0, ((lawful h.0).roomy bytes b).1 h.1)
+          from (Err WrongLength) h = h
+          from (Err WrongForm) h = h
+          from (Err WrongWidth) h = h
+          from (Err TooWide) h = (h.0, (outside h.0).1 h.1)
+          from (Err (BrokenDigit k)) h = h
+          from (Err (Crowded k)) h = h
+          from (Err Negative) h = h
+          from (Err PastEnd) h = h
+          from (Err WrongChoice) h = h
 
       -- the promise can be kept
       pub some-reply : (ds : List ℤ) × (j : ℕ) × (m : ℕ) × Recodes F bytes (due F bytes) ds j m

@@ -5,13 +5,12 @@ use mathlib.Core.List.{List}
 use Prim.Native.Nat.{ℕ}
 use lib.ListN.{length, replicate}
 use lib.IntN.{ℤ, pos}
-use Rattle.rules.specs.declared.Verdict.{Verdict}
-use Rattle.rules.specs.declared.Verdict.TheVariants.{Done, WrongWidth}
+use Rattle.rules.specs.declared.Refusal.TheVariants.{WrongWidth}
 use Rattle.rules.specs.Integer.{integer, Bytes}
 use Rattle.rules.specs.Digits.{weighted}
 use Rattle.rules.specs.Forms.{Form}
 use Rattle.rules.specs.Keeps.{Passes}
-use Rattle.rules.specs.Verdicts.{number, unless}
+use Rattle.rules.specs.Verdicts.{Verdict, Done, number, unless}
 use Rattle.rules.specs.Test.{first_fault, range_fault, verdict}
 use Rattle.rules.specs.Refusals.{Offered}
 use Rattle.rules.specs.Promises.{Reads}

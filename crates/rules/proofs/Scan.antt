@@ -10,12 +10,12 @@ use native.Mathlib.Omega.{arith}
 use lib.Dec.{T, eqb, eqb-suc-zero}
 use lib.ListN.{length, take, get_or-eq_default}
 use lib.IntN.{ℤ, pos}
-use Rattle.rules.specs.declared.Verdict.{Verdict}
-use Rattle.rules.specs.declared.Verdict.TheVariants.{Done, BrokenDigit, Crowded}
+use Rattle.rules.specs.declared.Refusal.TheVariants.{BrokenDigit, Crowded}
+use Rattle.std.specs.Prelude.{Err}
 use Rattle.rules.specs.Digits.{digit_at, is_zero}
 use Rattle.rules.specs.Forms.{Form}
 use Rattle.rules.specs.Keeps.{Keeps}
-use Rattle.rules.specs.Verdicts.{unless, ◌or_else◌}
+use Rattle.rules.specs.Verdicts.{Verdict, Done, unless, ◌or_else◌}
 use Rattle.rules.specs.Refusals.{BreaksAt, CrowdsAt}
 use Rattle.rules.specs.inner.Scan.{fault, held_next, scan}
 use Rattle.rules.proofs.Verdicts.{done-or_else, refused-or_else, unless-held, unless-failed}
@@ -34,7 +34,7 @@ pub data Stop (F : Form) : ℕ → ℕ → List ℤ → Bool → ℕ → Type 0 
   later : {i held k : ℕ} {c : Bool} {d : ℤ} {ds : List ℤ} → T (F.own i d) → T (is_zero d || eqb held 0) → Stop F (suc i) (held_next F.gap held d) ds c k → Stop F i held (d ∷ ds) c (suc k)
 
 abbrev pub stopped : Bool → ℕ → Verdict
-stopped c k = cond c (Crowded k) (BrokenDigit k)
+stopped c k = cond c (Err (Crowded k)) (Err (BrokenDigit k))
 
 -- it goes through, or it stops
 pub data View (F : Form) (i held : ℕ) (ds : List ℤ) : Type 0 where
@@ -65,15 +65,15 @@ module _ (F : Form) where
   good-scan (good-cons {i} {held} {d} {ds} s t q) = no-fault i held d (scan F (suc i) (held_next F.gap held d) ds) s t ∙ good-scan q
 
   nonzero-number : (c : Bool) (k : ℕ) (v : Verdict) → stopped c k or_else v ≡ stopped c k
-  nonzero-number true k v = refused-or_else (Crowded k) v (λ e. omega arith)
-  nonzero-number false k v = refused-or_else (BrokenDigit k) v (λ e. omega arith)
+  nonzero-number true k v = refused-or_else (Err (Crowded k)) v (λ e. omega arith)
+  nonzero-number false k v = refused-or_else (Err (BrokenDigit k)) v (λ e. omega arith)
 
   pub stop-scan : {i held k : ℕ} {c : Bool} {ds : List ℤ} → Stop F i held ds c k → scan F i held ds ≡ stopped c (i + k)
   unfolding scan fault
   stop-scan (at_own {i} {held} {d} {ds} t) =
       rw (add-zero, unless-failed (F.own i d) (BrokenDigit i) t, nonzero-number false i (unless (is_zero d || eqb held 0) (Crowded i))) (nonzero-number false i _)
   stop-scan (at_place {i} {held} {d} {ds} s t) =
-      rw (add-zero, unless-held (F.own i d) (BrokenDigit i) s, unless-failed (is_zero d || eqb held 0) (Crowded i) t, done-or_else (Crowded i)) (nonzero-number true i _)
+      rw (add-zero, unless-held (F.own i d) (BrokenDigit i) s, unless-failed (is_zero d || eqb held 0) (Crowded i) t, done-or_else (Err (Crowded i))) (nonzero-number true i _)
   stop-scan (later {i} {held} {k} {c} {d} {ds} s t q) =
       no-fault i held d (scan F (suc i) (held_next F.gap held d) ds) s t ∙ stop-scan q ∙ ap (stopped c) (suc-add i k ∙ sym (add-suc i k))
 

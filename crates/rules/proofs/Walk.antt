@@ -7,11 +7,9 @@ use native.Mathlib.Numerals.{add-one}
 use lib.ListN.{length, drop, drop_of_length-le}
 use lib.Seq.{drop-cons}
 use lib.IntN.{ℤ, pos}
-use Rattle.rules.specs.declared.Verdict.{Verdict}
-use Rattle.rules.specs.declared.Verdict.TheVariants.{Done}
 use Rattle.rules.specs.Digits.{digit_at}
 use Rattle.rules.specs.Forms.{Form}
-use Rattle.rules.specs.Verdicts.{number, ◌or_else◌}
+use Rattle.rules.specs.Verdicts.{Verdict, Done, number, ◌or_else◌}
 use Rattle.rules.proofs.Verdicts.{done-or_else, refused-or_else, number-zero}
 use Rattle.rules.specs.inner.Scan.{fault, held_next, scan}
 

@@ -1,10 +1,9 @@
 -- 01, "Figures on both sides of the edges": the fourteen marked P, as one table. Assumes nothing.
-use Rattle.std.specs.Prelude.{ℕ, ◌-◌, ◌^◌, List, [], ◌∷◌, Bool, true, false, cond, ◌&&◌, eqb, replicate, set, ℤ, pos, negsuc, neg_ℤ}
-use Rattle.rules.specs.declared.Verdict.{Verdict}
-use Rattle.rules.specs.declared.Verdict.TheVariants.{Done, Negative, PastEnd}
+use Rattle.std.specs.Prelude.{ℕ, ◌-◌, ◌^◌, List, [], ◌∷◌, Bool, true, false, cond, ◌&&◌, eqb, replicate, set, ℤ, pos, negsuc, neg_ℤ, Err}
+use Rattle.rules.specs.declared.Refusal.TheVariants.{Negative, PastEnd}
 use Rattle.rules.specs.Digits.{weighted}
 use Rattle.rules.specs.Forms.{Form, card_n, card_r}
-use Rattle.rules.specs.Verdicts.{number, position}
+use Rattle.rules.specs.Verdicts.{Verdict, Done, number, position}
 use Rattle.rules.specs.Test.{verdict}
 
 -- The form that a figure is about.
@@ -93,7 +92,7 @@ figures =
     ∷ figure R 4 (minus 1 at 0 ∷ pos 8 at 63 ∷ []) (pos (2 ^ 255 - 1)) Done 64
     ∷ figure R 8 (minus 1 at 0 ∷ minus 128 at 31 ∷ pos 1 at 32 ∷ []) (pos (2 ^ 255 - 1)) Done 33
     ∷ figure R 5 (minus 1 at 0 ∷ pos 2 at 51 ∷ []) (pos (2 ^ 256 - 1)) Done 52
-    ∷ figure N 2 (minus 1 at 0 ∷ []) (minus 1) Negative 0
-    ∷ figure N 2 (pos 1 at 255 ∷ []) (pos (2 ^ 255)) PastEnd 0
+    ∷ figure N 2 (minus 1 at 0 ∷ []) (minus 1) (Err Negative) 0
+    ∷ figure N 2 (pos 1 at 255 ∷ []) (pos (2 ^ 255)) (Err PastEnd) 0
     ∷ figure N 2 (minus 1 at 0 ∷ pos 1 at 255 ∷ []) (pos (2 ^ 255 - 1)) Done 256
     ∷ []

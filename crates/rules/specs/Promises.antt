@@ -1,12 +1,11 @@
 -- 01, "The numbers of each width" and "The numbers the card says no with": what a recoder and a reader of a form promise. Assumes nothing.
 use Rattle.std.specs.Prelude.{ℕ, ◌≡◌, ◌≢◌, List, length, replicate, ℤ, pos}
-use Rattle.rules.specs.declared.Verdict.{Verdict}
-use Rattle.rules.specs.declared.Verdict.TheVariants.{Done, WrongWidth, TooWide}
+use Rattle.rules.specs.declared.Refusal.TheVariants.{WrongWidth, TooWide}
 use Rattle.rules.specs.Integer.{integer}
 use Rattle.rules.specs.Digits.{weighted}
 use Rattle.rules.specs.Forms.{Form}
 use Rattle.rules.specs.Keeps.{Keeps}
-use Rattle.rules.specs.Verdicts.{unless, ◌or_else◌}
+use Rattle.rules.specs.Verdicts.{Verdict, Done, unless, ◌or_else◌}
 use Rattle.rules.specs.Test.{verdict}
 
 -- The verdict that a recoder's call gets: 3 for the width, then 4 for the last byte.

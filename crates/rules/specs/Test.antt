@@ -1,10 +1,9 @@
 -- 01, "The numbers the card says no with": the acceptance test's verdict, read off the table. Assumes nothing.
-use Rattle.std.specs.Prelude.{ℕ, zero, suc, ◌-◌, Bool, not, ◌&&◌, List, ltb, eqb, length, take, drop, ℤ, pos, negsuc}
-use Rattle.rules.specs.declared.Verdict.{Verdict}
-use Rattle.rules.specs.declared.Verdict.TheVariants.{Done, WrongLength, WrongWidth, BrokenDigit, Crowded, Negative, PastEnd}
+use Rattle.std.specs.Prelude.{ℕ, zero, suc, ◌-◌, Bool, not, ◌&&◌, List, ltb, eqb, length, take, drop, ℤ, pos, negsuc, Err}
+use Rattle.rules.specs.declared.Refusal.TheVariants.{WrongLength, WrongWidth, BrokenDigit, Crowded, Negative, PastEnd}
 use Rattle.rules.specs.Digits.{digit_at, is_zero, non_zeros, weighted}
 use Rattle.rules.specs.Forms.{Form}
-use Rattle.rules.specs.Verdicts.{unless, ◌or_else◌}
+use Rattle.rules.specs.Verdicts.{Verdict, Done, unless, ◌or_else◌}
 
 -- The digit at index i is not zero, and one of the `gap` digits just below it is not zero either.
 unfoldable pub crowded : ℕ → List ℤ → ℕ → Bool
@@ -22,7 +21,7 @@ first_fault F ds i (suc k) = fault_at F ds i or_else first_fault F ds (suc i) k
 -- The sum against the range: 7 below it, 8 at its end or past it.
 unfoldable pub range_fault : ℕ → ℤ → Verdict
 range_fault end (pos x) = unless (ltb x end) PastEnd
-range_fault end (negsuc x) = Negative
+range_fault end (negsuc x) = Err Negative
 
 -- The test: the length, the width, the digits from index 0 up, and the sum, in this order.
 unfoldable pub verdict : Form → List ℤ → Verdict

@@ -1,13 +1,11 @@
 #![tactic(auto)]
 // The verdicts of document 01. Its rules stand in specs/ as definitions, and the laws about them in proofs/.
 ghost use Rattle.std.specs.Prelude.{◌≡◌};
-ghost use Rattle.rules.specs.Verdicts.{number, position, ◌or_else◌};
+ghost use Rattle.rules.specs.Verdicts.{number, position};
 
-// What an entry answers: done, or one of the refusals of 01's table, in the table's order.
-#[derive(Clone, Copy)]
-pub enum Verdict {
-    // 0: done
-    Done,
+// Why an entry says no: the refusals of 01's table, in the table's order.
+#[derive(Clone, Copy, Debug, PartialEq, Eq)]
+pub enum Refusal {
     // 1: a slice or the program's input has the wrong length
     WrongLength,
     // 2: the form letter is not one of the program's
@@ -28,49 +26,35 @@ pub enum Verdict {
     WrongChoice,
 }
 
-impl Verdict {
-    // The refusal's number in 01's table, 0 for done.
+// What an entry answers: done, or a refusal.
+pub type Verdict = Result<(), Refusal>;
+
+impl Refusal {
+    // The refusal's number in 01's table. By a match: `as` takes no enum of which a case holds something.
     pub fn number(self) -> u8
-        ensures { result ≡ number self }
+        ensures { result ≡ number (Err self) }
     {
         match self {
-            Verdict::Done => 0,
-            Verdict::WrongLength => 1,
-            Verdict::WrongForm => 2,
-            Verdict::WrongWidth => 3,
-            Verdict::TooWide => 4,
-            Verdict::BrokenDigit(_) => 5,
-            Verdict::Crowded(_) => 6,
-            Verdict::Negative => 7,
-            Verdict::PastEnd => 8,
-            Verdict::WrongChoice => 9,
+            Refusal::WrongLength => 1,
+            Refusal::WrongForm => 2,
+            Refusal::WrongWidth => 3,
+            Refusal::TooWide => 4,
+            Refusal::BrokenDigit(_) => 5,
+            Refusal::Crowded(_) => 6,
+            Refusal::Negative => 7,
+            Refusal::PastEnd => 8,
+            Refusal::WrongChoice => 9,
         }
     }
 
     // The refusal's position: the digit's index for 5 and 6, and 0 for all others.
     pub fn position(self) -> usize
-        ensures { result ≡ position self }
+        ensures { result ≡ position (Err self) }
     {
         match self {
-            Verdict::Done => 0,
-            Verdict::WrongLength => 0,
-            Verdict::WrongForm => 0,
-            Verdict::WrongWidth => 0,
-            Verdict::TooWide => 0,
-            Verdict::BrokenDigit(i) => i,
-            Verdict::Crowded(i) => i,
-            Verdict::Negative => 0,
-            Verdict::PastEnd => 0,
-            Verdict::WrongChoice => 0,
+            Refusal::BrokenDigit(i) => i,
+            Refusal::Crowded(i) => i,
+            _ => 0,
         }
-    }
-    // This verdict if it is a refusal, otherwise the next: what is tried first goes first.
-    pub fn or_else(self, next: Verdict) -> Verdict
-        ensures { result ≡ self or_else next }
-    {
-        if self.number() != 0 {
-            return self;
-        }
-        next
     }
 }

@@ -9,9 +9,9 @@ use borrow.Author.Tests.{eq-eqb, ne_eqb}
 use lib.Dec.{eqb}
 use lib.ListN.{length}
 use Rattle.numbers.proofs.Agree.{agree}
-use Rattle.rules.specs.declared.Verdict.{Verdict}
-use Rattle.rules.specs.declared.Verdict.TheVariants.{Done, WrongLength}
-use Rattle.rules.specs.Verdicts.{unless, ◌or_else◌}
+use Rattle.rules.specs.declared.Refusal.TheVariants.{WrongLength}
+use Rattle.std.specs.Prelude.{Err}
+use Rattle.rules.specs.Verdicts.{Verdict, Done, unless, ◌or_else◌}
 use Rattle.rules.proofs.Verdicts.{done-or_else, refused-or_else}
 use Rattle.scalar.specs.FromSlice.{FromSlice}
 
@@ -30,4 +30,4 @@ module _ {given made : List ℕ} {answer : Verdict} (s : FromSlice given answer 
   slice_first {v} {due} f =
       by_cases (ℕ_discrete (length given) 32)
       (λ e. rw ((s.done e).0, eq-eqb _ _ e) (done-or_else v ∙ f (s.done e).1 ∙ sym (done-or_else due)))
-      (λ n. rw ((s.refused n).0, ne_eqb _ _ n) (refused-or_else WrongLength v (λ z. omega arith) ∙ sym (refused-or_else WrongLength due (λ z. omega arith))))
+      (λ n. rw ((s.refused n).0, ne_eqb _ _ n) (refused-or_else (Err WrongLength) v (λ z. omega arith) ∙ sym (refused-or_else (Err WrongLength) due (λ z. omega arith))))

@@ -2,3 +2,4 @@ pub mod Reduced
 pub mod Selects
 pub mod Zeroized
 pub mod FromSlices
+pub mod ScalarAnswers

@@ -4,7 +4,7 @@ use mathlib.Core.Path.{◌≡◌, refl}
 use mathlib.Core.List.{List}
 use native.Mathlib.Omega.{arith}
 use Rattle.numbers.proofs.Agree.{agree}
-use Rattle.rules.specs.declared.Verdict.{Verdict}
+use Rattle.rules.specs.Verdicts.{Verdict}
 use Rattle.scalar.specs.ConditionalSelect.{Selects}
 
 pub select-determined : {a b : List ℕ} {choice : ℕ} {answer answer' : Verdict} {made made' : List ℕ} → Selects a b choice answer made → Selects a b choice answer' made' → (answer ≡ answer') × (made ≡ made')

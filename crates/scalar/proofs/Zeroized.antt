@@ -6,7 +6,7 @@ use mathlib.Core.List.{List}
 use native.Mathlib.Decide.{ℕ_discrete}
 use lib.ListN.{length, get_or, get_or-replicate}
 use Rattle.numbers.proofs.Agree.{agree}
-use Rattle.rules.specs.declared.Verdict.{Verdict}
+use Rattle.rules.specs.Verdicts.{Verdict}
 use Rattle.scalar.specs.Zeroize.{Zeroized}
 
 pub zeroize-determined : {before after after' : List ℕ} {answer answer' : Verdict} → Zeroized before after answer → Zeroized before after' answer' → (answer ≡ answer') × (after ≡ after')

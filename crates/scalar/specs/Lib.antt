@@ -1,3 +1,4 @@
+pub mod Answers
 pub mod FromBits
 pub mod FromSlice
 pub mod ConditionalSelect

@@ -1,6 +1,5 @@
 #![tactic(auto)]
 // The scalar: 32 bytes that stand for an integer, and what needs no digits.
-pub mod reply;
 pub mod select;
 pub mod slice;
 pub mod zeroize;
@@ -11,7 +10,7 @@ ghost use Rattle.scalar.specs.FromBits.{Reduced};
 ghost use Rattle.scalar.specs.IsOdd.{odd_integer};
 
 // The lowest byte comes first.
-#[derive(Clone, Copy)]
+#[derive(Clone, Copy, Debug, PartialEq, Eq)]
 pub struct Scalar {
     pub bytes: [u8; 32],
 }

@@ -1,29 +1,28 @@
 // A scalar from a lent slice.
-ghost use Rattle.std.specs.Prelude.{◌≡◌, length};
+ghost use Rattle.rules.specs.Verdicts.{verdict_of};
+ghost use Rattle.scalar.specs.Answers.{bytes_of};
 ghost use Rattle.scalar.specs.FromSlice.{FromSlice};
 
 use crate::Scalar;
-use crate::reply::{Reply, done, refused};
-use rules::Verdict;
+use rules::Refusal;
 
-// The bytes of a slice of 32.
-fn copied(src: &[u8]) -> Scalar
-    requires { length src.now ≡ 32 }
-    ensures { result.bytes ≡ src.now }
-{
-    let mut bytes = [0u8; 32];
-    for i in 0..32 {
-        bytes[i] = src[i];
+// 32 bytes are taken as they are; another length is refused.
+impl TryFrom<&[u8]> for Scalar {
+    type Error = Refusal;
+
+    ghost try_from_gives = { λ src answer. FromSlice src.now (verdict_of answer) (bytes_of answer) };
+
+    fn try_from(src: &[u8]) -> Result<Self, Refusal> {
+        match <[u8; 32]>::try_from(src) {
+            Ok(bytes) => Ok(Scalar { bytes }),
+            Err(_) => Err(Refusal::WrongLength),
+        }
     }
-    Scalar { bytes }
 }
 
-// 32 bytes are taken as they are; another length is refused, with zero bytes.
-pub fn from_slice(src: &[u8]) -> Reply
-    ensures { FromSlice src.now result.verdict result.scalar.bytes }
+// The same as a plain function.
+pub fn from_slice(src: &[u8]) -> Result<Scalar, Refusal>
+    ensures { FromSlice src.now (verdict_of result) (bytes_of result) }
 {
-    if src.len() != 32 {
-        return refused(Verdict::WrongLength);
-    }
-    done(copied(src))
+    Scalar::try_from(src)
 }

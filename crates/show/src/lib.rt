@@ -22,79 +22,43 @@ pub fn number(rt: &impl Print, n: u64) -> io::Result<()> {
 
 // A verdict: its number and its position.
 pub fn verdict(rt: &impl Print, v: Verdict) -> io::Result<()> {
-    number(rt, v.number() as u64)?;
-    number(rt, v.position() as u64)
-}
-
-// A bool as 0 or 1, and nothing after it.
-pub fn bit(rt: &impl Print, b: bool) -> io::Result<()> {
-    if b {
-        rt.write_all(b"1")
-    } else {
-        rt.write_all(b"0")
-    }
+    let (number, position) = match v {
+        Ok(()) => (0, 0),
+        Err(refusal) => (refusal.number(), refusal.position()),
+    };
+    print!(rt; "{number} {position} ")
 }
 
 // Bits as 0 and 1, the lowest first, then a space.
 pub fn bits(rt: &impl Print, b: &[bool]) -> io::Result<()> {
-    let mut i: usize = 0;
-    while i < b.len() {
-        bit(rt, b[i])?;
-        i += 1;
+    for bit in b {
+        print!(rt; "{}", u8::from(*bit))?;
     }
     text(rt, b"")
 }
 
-// One byte as two hexadecimal digits.
-fn byte(rt: &impl Print, b: u8) -> io::Result<()> {
-    print!(rt; "{b:02x}")
-}
-
 // Bytes in hexadecimal, the lowest first, then a space.
 pub fn bytes(rt: &impl Print, b: &[u8]) -> io::Result<()> {
-    let mut i: usize = 0;
-    while i < b.len() {
-        byte(rt, b[i])?;
-        i += 1;
+    for byte in b {
+        print!(rt; "{byte:02x}")?;
     }
-    rt.write_all(b" ")
+    text(rt, b"")
 }
 
-// One word as sixteen hexadecimal digits, then a space.
-fn word(rt: &impl Print, w: u64) -> io::Result<()> {
-    print!(rt; "{w:016x} ")
-}
-
-// Words in hexadecimal.
+// Words in hexadecimal, a space after each.
 pub fn words(rt: &impl Print, w: &[u64]) -> io::Result<()> {
-    let mut i: usize = 0;
-    while i < w.len() {
-        word(rt, w[i])?;
-        i += 1;
+    for word in w {
+        print!(rt; "{word:016x} ")?;
     }
     Ok(())
 }
 
-// A digit that is not 0: its index, a colon, the digit, and a space.
-fn entry(rt: &impl Print, i: usize, d: i8) -> io::Result<()> {
-    if d == 0 {
-        return Ok(());
-    }
-    print!(rt; "{i}")?;
-    if d < 0 {
-        rt.write_all(b":-")?;
-    } else {
-        rt.write_all(b":")?;
-    }
-    number(rt, digits::magnitude::magnitude(d) as u64)
-}
-
-// The digits that are not 0, from the lowest index.
+// The digits that are not 0, from the lowest index: the index, a colon, the digit, and a space.
 pub fn string(rt: &impl Print, ds: &[i8]) -> io::Result<()> {
-    let mut i: usize = 0;
-    while i < ds.len() {
-        entry(rt, i, ds[i])?;
-        i += 1;
+    for (i, d) in ds.iter().enumerate() {
+        if *d != 0 {
+            print!(rt; "{i}:{d} ")?;
+        }
     }
     Ok(())
 }

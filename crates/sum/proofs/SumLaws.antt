@@ -1,27 +1,26 @@
 -- The sum of a digit string, taken up digit by digit and written out byte by byte, and what its promise fixes. Assumes nothing.
 use mathlib.Core.Path.{◌≡◌, refl, sym, ap, subst, subst⁻¹, ◌∙◌}
-use mathlib.Core.Bool.{Bool, true, false, cond, not, ◌&&◌}
+use mathlib.Core.Bool.{Bool, true, false, cond, not}
 use mathlib.Core.Logic.{◌↔◌, ◌≢◌, by_cases}
 use mathlib.Core.List.{List, [], ◌∷◌}
 use Prim.Native.Nat.{ℕ, suc, ◌+◌, ◌-◌, ◌*◌, ◌/◌, ◌%◌, ◌^◌, ◌≤◌, ◌<◌}
-use native.Mathlib.Nat.{le_refl, add-zero, mul_left_comm, le_of_mul-le-mul_left, lt_of_lt_of_le, mul-zero, mul-suc, mul_comm, mul-le-mul_left, mul-le-mul_right, pow-suc, div-add-mod, add-mul}
+use native.Mathlib.Nat.{le_refl, add-zero, mul_left_comm, le_of_mul-le-mul_left, mul-zero, mul-suc, mul_comm, mul-le-mul_left, mul-le-mul_right, pow-suc, div-add-mod, add-mul}
 use native.Mathlib.Decide.{dec_lt}
 use native.Mathlib.Numerals.{add-one}
 use native.Mathlib.Omega.{arith}
 use lib.ListN.{length, replicate, get_or, set, take, get_or-eq_default}
 use lib.Seq.{take_all, take-suc-set, length-take-le}
 use lib.Pow.{pow-add, pow_mono, shl_exact, shr_lt}
-use lib.Dec.{T, leb, leb→le, lit<, lit≤}
-use borrow.Author.Tests.{lt-ltb, le-ltb, le-leb}
+use lib.Dec.{T, lit<, lit≤}
+use borrow.Author.Tests.{lt-ltb, le-ltb}
 use lib.IntN.{ℤ, pos, negsuc, ◌+ℤ◌, ◌*ℤ◌, +ℤ_idr, *ℤ-zero}
 use Rattle.numbers.specs.Positional.{positional}
 use Rattle.numbers.proofs.Balance.{up, dn, same, add-balance, mul-up, mul-dn}
 use Rattle.numbers.proofs.Positional.{append, size}
-use Rattle.numbers.proofs.Tests.{and_left, and_right}
 use Rattle.numbers.proofs.Windows.{pow-pow}
-use Rattle.rules.specs.declared.Verdict.{Verdict}
-use Rattle.rules.specs.declared.Verdict.TheVariants.{Done, WrongWidth, Negative, PastEnd}
-use Rattle.rules.specs.Verdicts.{number}
+use Rattle.rules.specs.declared.Refusal.TheVariants.{Negative, PastEnd}
+use Rattle.std.specs.Prelude.{Err}
+use Rattle.rules.specs.Verdicts.{Verdict, Done, number}
 use Rattle.rules.specs.Integer.{integer, Bytes}
 use Rattle.rules.specs.Digits.{digit_at, weighted}
 use Rattle.rules.specs.Test.{range_fault}
@@ -35,9 +34,7 @@ use Rattle.sum.specs.SumRead.{summable, end_of, SumRead}
 
 -- what `add_digit` needs and gives
 pub record DigitAdded (sum bits digit w : ℕ) : Type 0 where
-  pub raised-fits : digit + (128 * 2 ^ w) % 2 ^ 32 < 2 ^ 32
   pub raised-enough : 256 ≤ digit + (128 * 2 ^ w) % 2 ^ 32
-  pub sum_fits : sum + ((digit + (128 * 2 ^ w) % 2 ^ 32 - 256) * 2 ^ bits) % 2 ^ 32 < 2 ^ 32
   pub sum_is : sum + ((digit + (128 * 2 ^ w) % 2 ^ 32 - 256) * 2 ^ bits) % 2 ^ 32 + 256 * 2 ^ bits ≡ sum + (digit + 128 * 2 ^ w) * 2 ^ bits
   pub sum-small : sum + ((digit + (128 * 2 ^ w) % 2 ^ 32 - 256) * 2 ^ bits) % 2 ^ 32 < 2 ^ (bits + w + 8)
 
@@ -70,9 +67,7 @@ module _ (sum bits digit w : ℕ) (h : (sum < 2 ^ (bits + 8)) × (bits < 8) × (
   pub digit-added : DigitAdded sum bits digit w
   digit-added =
       record {
-        raised-fits = rw half-kept (omega (arith, pow_mono {i = w} {j = 8} (omega arith)));
         raised-enough = rw half-kept (omega (arith, two));
-        sum_fits = rw (half-kept, raised-kept) (lt_of_lt_of_le small (pow_mono {j = 32} (omega arith)));
         sum_is = rw (half-kept, raised-kept) whole;
         sum-small = rw (half-kept, raised-kept) small;
       }
@@ -164,17 +159,17 @@ inside-end : (end x : ℕ) → x < end → range_fault end (pos x) ≡ Done
 unfolding range_fault
 inside-end end x h = rw (lt-ltb x end h)
 
-outside-end : (end x : ℕ) → end ≤ x → range_fault end (pos x) ≡ PastEnd
+outside-end : (end x : ℕ) → end ≤ x → range_fault end (pos x) ≡ Err PastEnd
 unfolding range_fault
 outside-end end x h = rw (le-ltb x end h)
 
 -- from what stands above X, counted from `half`
-below-range : (end X half above low : ℕ) (z : ℤ) → z +ℤ pos (X * half) ≡ pos (low + X * above) → low < X → above < half → range_fault end z ≡ Negative
+below-range : (end X half above low : ℕ) (z : ℤ) → z +ℤ pos (X * half) ≡ pos (low + X * above) → low < X → above < half → range_fault end z ≡ Err Negative
 unfolding range_fault
 below-range end X half above low (pos x) e l h = absurd (omega (arith, balanced (pos x) _ _ e, mul-le-mul_left X h))
 below-range end X half above low (negsuc x) e l h = refl
 
-past-range : (end X half above low : ℕ) (z : ℤ) → z +ℤ pos (X * half) ≡ pos (low + X * above) → end ≤ X → half < above → range_fault end z ≡ PastEnd
+past-range : (end X half above low : ℕ) (z : ℤ) → z +ℤ pos (X * half) ≡ pos (low + X * above) → end ≤ X → half < above → range_fault end z ≡ Err PastEnd
 past-range end X half above low (pos x) e l h = outside-end end x (omega (arith, balanced (pos x) _ _ e, mul-le-mul_left X h))
 past-range end X half above low (negsuc x) e l h = absurd (omega (arith, balanced (negsuc x) _ _ e, mul-le-mul_left X h))
 
@@ -196,7 +191,7 @@ top-fits : (short : Bool) {bytes : List ℕ} → Bytes 32 bytes → (get_or byte
 top-fits true b = byte-31 b
 top-fits false b = (λ _. bytes_below b, λ _. omega (arith, b.small 31))
 
--- ---- what `judge` and `read_sum` promise
+-- ---- what `judge` promises
 
 -- a refusal with zero bytes
 abbrev pub Refused : Verdict → Verdict → List ℕ → Type 0
@@ -209,13 +204,13 @@ refuses : {z : ℤ} {short : Bool} {v answer : Verdict} {bytes : List ℕ} → r
 refuses e h r = record { ranged = r.0 ∙ sym e; sums = λ d. absurd (not_done h r.0 d); zeros = λ _. r.1 }
 
 module _ {given : List ℕ} {above half : ℕ} {short : Bool} {answer : Verdict} {bytes : List ℕ} (b : Bytes 32 given) where
-  pub judged-negative : above < half → Refused Negative answer bytes → Judged given above half short answer bytes
+  pub judged-negative : above < half → Refused (Err Negative) answer bytes → Judged given above half short answer bytes
   judged-negative h r z t = refuses (below-range (end_of short) (2 ^ 256) half above (integer given) z t.sum (bytes_below b) h) (lit< tt) r
 
-  pub judged-past : half < above → Refused PastEnd answer bytes → Judged given above half short answer bytes
+  pub judged-past : half < above → Refused (Err PastEnd) answer bytes → Judged given above half short answer bytes
   judged-past h r z t = refuses (past-range (end_of short) (2 ^ 256) half above (integer given) z t.sum (end-most short) h) (lit< tt) r
 
-  pub judged-over : above ≡ half → cond short 127 255 < get_or given 31 0 → Refused PastEnd answer bytes → Judged given above half short answer bytes
+  pub judged-over : above ≡ half → cond short 127 255 < get_or given 31 0 → Refused (Err PastEnd) answer bytes → Judged given above half short answer bytes
   judged-over level h r z t =
       let over : end_of short ≤ integer given = by_cases (dec_lt (integer given) (end_of short)) (λ l. absurd (omega (arith, (top-fits short b).1 l))) (λ n. omega arith) in
       refuses (ap (range_fault (end_of short)) (exact z t level) ∙ outside-end (end_of short) (integer given) over) (lit< tt) r
@@ -227,26 +222,6 @@ module _ {given : List ℕ} {above half : ℕ} {short : Bool} {answer : Verdict}
         ranged = r.0 ∙ sym (ap (range_fault (end_of short)) (exact z t level) ∙ inside-end (end_of short) (integer given) ((top-fits short b).0 h));
         sums = λ _. rw r.1 (exact z t level);
         zeros = λ f. absurd (f r.0);
-      }
-
-module _ {ds : List ℤ} {w : ℕ} {short : Bool} {answer : Verdict} {bytes : List ℕ} where
-  pub reads-wrong : (1 ≤ w → w ≤ 8 → w * length ds ≤ 264 → ⊥) → Refused WrongWidth answer bytes → SumRead ds w short answer bytes
-  reads-wrong f r =
-      let widths = and_left (leb 1 w && leb w 8) (leb (w * length ds) 264) in
-      record {
-        ranged = λ t. absurd (f (leb→le 1 w (and_left (leb 1 w) (leb w 8) (widths t))) (leb→le w 8 (and_right (leb 1 w) (leb w 8) (widths t))) (leb→le (w * length ds) 264 (and_right (leb 1 w && leb w 8) _ t)));
-        unsummed = λ _. r.0;
-        sums = λ d. absurd (not_done (lit< tt) r.0 d);
-        zeros = λ _. r.1;
-      }
-
-  pub reads-sum : 1 ≤ w → w ≤ 8 → w * length ds ≤ 264 → SumAnswered (weighted (2 ^ w) ds) short answer bytes → SumRead ds w short answer bytes
-  reads-sum low high few a =
-      record {
-        ranged = λ _. a.ranged;
-        unsummed = λ t. absurd (rw (le-leb 1 w low, le-leb w 8 high, le-leb (w * length ds) 264 few) at t);
-        sums = a.sums;
-        zeros = a.zeros;
       }
 
 -- ---- the promise fixes the reply

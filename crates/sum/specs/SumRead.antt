@@ -1,7 +1,7 @@
 -- What `read_sum` promises: a digit string's sum, as 32 bytes. Assumes nothing.
-use Rattle.std.specs.Prelude.{ℕ, ◌*◌, ◌^◌, ◌≡◌, ◌≢◌, Bool, cond, not, ◌&&◌, List, T, leb, length, replicate, ℤ, pos}
-use Rattle.rules.specs.declared.Verdict.{Verdict}
-use Rattle.rules.specs.declared.Verdict.TheVariants.{Done, WrongWidth}
+use Rattle.std.specs.Prelude.{ℕ, ◌*◌, ◌^◌, ◌≡◌, ◌≢◌, Bool, cond, not, ◌&&◌, List, T, leb, length, replicate, ℤ, pos, Err}
+use Rattle.rules.specs.declared.Refusal.TheVariants.{WrongWidth}
+use Rattle.rules.specs.Verdicts.{Verdict, Done}
 use Rattle.rules.specs.Integer.{integer}
 use Rattle.rules.specs.Digits.{weighted}
 use Rattle.rules.specs.Test.{range_fault}
@@ -17,6 +17,6 @@ end_of short = 2 ^ cond short 255 256
 -- The sum against the range, 7 or 8, and where it is inside, the 32 bytes that have it; a string that is not added up is 3. Refused: zero bytes.
 pub record SumRead (ds : List ℤ) (w : ℕ) (short : Bool) (answer : Verdict) (bytes : List ℕ) : Type 0 where
   pub ranged : T (summable w ds) → answer ≡ range_fault (end_of short) (weighted (2 ^ w) ds)
-  pub unsummed : T (not (summable w ds)) → answer ≡ WrongWidth
+  pub unsummed : T (not (summable w ds)) → answer ≡ Err WrongWidth
   pub sums : answer ≡ Done → weighted (2 ^ w) ds ≡ pos (integer bytes)
   pub zeros : answer ≢ Done → bytes ≡ replicate 32 0

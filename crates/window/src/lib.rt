@@ -3,18 +3,11 @@
 ghost use Rattle.std.specs.Prelude.{◌≡◌, ◌+◌, ◌*◌, ◌^◌, ◌<◌, get_or};
 ghost use Rattle.window.specs.Window.{Windowed};
 
-// A byte as a wider number.
-fn wide(byte: u8) -> u32
-    ensures { (result ≡ byte) × (result < 256) }
-{
-    byte as u32
-}
-
 // The byte at an index; past the last byte stand zeros.
 fn byte_at(bytes: &[u8], i: usize) -> u32
     ensures { (result ≡ get_or bytes.now i 0) × (result < 256) }
 {
-    if i < bytes.len() { wide(bytes[i]) } else { 0 }
+    bytes.get(i).copied().map_or(0, u32::from)
 }
 
 // Two neighbouring bytes as one number, the first of them the lower.
@@ -23,7 +16,7 @@ fn pair_at(bytes: &[u8], i: usize) -> u32
     ensures { (result ≡ get_or bytes.now i 0 + 256 * get_or bytes.now (i + 1) 0) × (result < 65536) }
 {
     if i + 1 < bytes.len() {
-        wide(bytes[i]) + 256 * wide(bytes[i + 1])
+        u32::from(bytes[i]) + 256 * u32::from(bytes[i + 1])
     } else {
         byte_at(bytes, i)
     }

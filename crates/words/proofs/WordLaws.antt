@@ -8,8 +8,9 @@ use native.Mathlib.Decide.{ℕ_discrete}
 use native.Mathlib.Omega.{arith}
 use lib.ListN.{length, get_or, take, drop, length-drop}
 use lib.Seq.{ext_get_or, get_or-take, get_or-drop, length-take-le}
-use Rattle.rules.specs.declared.Verdict.{Verdict}
-use Rattle.rules.specs.declared.Verdict.TheVariants.{Done, WrongLength}
+use Rattle.rules.specs.declared.Refusal.TheVariants.{WrongLength}
+use Rattle.rules.specs.Verdicts.{Verdict, Done}
+use Rattle.std.specs.Prelude.{Err}
 use Rattle.numbers.specs.Total.{totalℕ}
 use Rattle.numbers.proofs.Positional.{Below, digit-of}
 use Rattle.numbers.proofs.Digits.{below-part, part-sum, of-digits}
@@ -20,7 +21,7 @@ record Filled (m n : ℕ) (f : ℕ → ℕ) (before after : List ℕ) (answer : 
   long : length after ≡ length before
   done : m ≡ n → answer ≡ Done
   each : m ≡ n → (k : ℕ) → k < length before → get_or after k 0 ≡ f k
-  refused : m ≢ n → (answer ≡ WrongLength) × (after ≡ before)
+  refused : m ≢ n → (answer ≡ Err WrongLength) × (after ≡ before)
 
 module _ {m n : ℕ} {f : ℕ → ℕ} {before after after' : List ℕ} {answer answer' : Verdict} (p : Filled m n f before after answer) (q : Filled m n f before after' answer') where
   one-reply : (answer ≡ answer') × (after ≡ after')

@@ -1,8 +1,8 @@
 -- 01, "Bytes, bits, words": words of eight bytes. Assumes nothing.
-use Rattle.std.specs.Prelude.{ℕ, ◌+◌, ◌*◌, ◌/◌, ◌%◌, ◌^◌, ◌<◌, ◌≡◌, ◌≢◌, List, length, get_or, take, drop}
+use Rattle.std.specs.Prelude.{ℕ, ◌+◌, ◌*◌, ◌/◌, ◌%◌, ◌^◌, ◌<◌, ◌≡◌, ◌≢◌, List, length, get_or, take, drop, Err}
 use Rattle.rules.specs.Integer.{integer}
-use Rattle.rules.specs.declared.Verdict.{Verdict}
-use Rattle.rules.specs.declared.Verdict.TheVariants.{Done, WrongLength}
+use Rattle.rules.specs.declared.Refusal.TheVariants.{WrongLength}
+use Rattle.rules.specs.Verdicts.{Verdict, Done}
 
 -- Word k: the little-endian value of its eight bytes.
 abbrev pub word_at : List ℕ → ℕ → ℕ
@@ -29,11 +29,11 @@ pub record WordsRead (source before after : List ℕ) (answer : Verdict) : Type 
   pub long : length after ≡ length before
   pub done : length source ≡ 8 * length before → answer ≡ Done
   pub words : length source ≡ 8 * length before → (k : ℕ) → k < length before → get_or after k 0 ≡ word_at source k
-  pub refused : length source ≢ 8 * length before → (answer ≡ WrongLength) × (after ≡ before)
+  pub refused : length source ≢ 8 * length before → (answer ≡ Err WrongLength) × (after ≡ before)
 
 -- The converse: 8 bytes lent for each word, and each byte is written; otherwise 1, and nothing is written.
 pub record WordsWritten (source before after : List ℕ) (answer : Verdict) : Type 0 where
   pub long : length after ≡ length before
   pub done : length before ≡ 8 * length source → answer ≡ Done
   pub bytes : length before ≡ 8 * length source → (i : ℕ) → i < length before → get_or after i 0 ≡ byte_at source i
-  pub refused : length before ≢ 8 * length source → (answer ≡ WrongLength) × (after ≡ before)
+  pub refused : length before ≢ 8 * length source → (answer ≡ Err WrongLength) × (after ≡ before)

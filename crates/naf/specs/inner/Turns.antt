@@ -1,15 +1,15 @@
 -- What the recoder's parts promise each other, over the width. Assumes nothing.
-use Rattle.std.specs.Prelude.{ℕ, ◌-◌, ◌%◌, ◌^◌, ◌≤◌, ◌≡◌, ◌≢◌, Bool, true, false, ℤ}
+use Rattle.std.specs.Prelude.{ℕ, ◌-◌, ◌%◌, ◌^◌, ◌≡◌, ◌≢◌, MatchOption, ℤ}
+use Rattle.std.specs.declared.option.Option.{Option}
+use Rattle.digits.specs.declared.centre.Centred.{Centred}
 use Rattle.numbers.specs.Centred.{centred, carried}
 
--- A width of form N, and half the span of its windows.
-pub record HalfN (w half : ℕ) : Type 0 where
-  pub least : 2 ≤ w
-  pub most : w ≤ 8
-  pub power : half ≡ 2 ^ (w - 1)
+-- An odd x becomes a digit and a carry.
+pub record TakenN (w x : ℕ) (digit : ℤ) (next : ℕ) : Type 0 where
+  pub odd : x % 2 ≢ 0
+  pub is : digit ≡ centred (2 ^ (w - 1)) x
+  pub carries : next ≡ carried (2 ^ (w - 1)) x
 
--- A turn at a window and its carry, together x: even, no digit stands there and the carry stays; odd, x becomes a digit and a carry.
-pub record StepN (w x carry : ℕ) (odd : Bool) (digit : ℤ) (next : ℕ) : Type 0 where
-  pub skips : odd ≡ false → (x % 2 ≡ 0) × (next ≡ carry)
-  pub takes : odd ≡ true → (x % 2 ≢ 0) × (digit ≡ centred (2 ^ (w - 1)) x) × (next ≡ carried (2 ^ (w - 1)) x)
-  pub bit : next ≤ 1
+-- A turn at a window and its carry, together x: even, no digit stands there and the carry stays; odd, x is taken.
+unfoldable pub StepN : (w x : ℕ) → Option Centred → Type 0
+StepN w x turn = MatchOption turn (x % 2 ≡ 0) (λ c. TakenN w x c.digit c.carry.bit)

@@ -8,6 +8,3 @@ use Rattle.naf_read.proofs.first_fault.Given as goal
 
 abbrev pub invariant-loop-i : goal.invariant-loop-i
 invariant-loop-i l = (l.i ≤ length l.digits) × (l.half ≡ 2 ^ (l.w - 1)) × (scan (card_n l.w) l.i l.held (drop l.i l.digits) ≡ scan (card_n l.w) 0 0 l.digits)
-
-abbrev pub decreases-loop-i : goal.decreases-loop-i
-decreases-loop-i l = length l.digits - l.i

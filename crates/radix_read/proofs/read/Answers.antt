@@ -1,58 +1,51 @@
--- `read`: the length, the width's row, the digits and the sum, in this order. Assumes nothing.
-use mathlib.Core.Path.{sym, ◌∙◌}
-use mathlib.Core.Logic.{◌≢◌}
+-- `read`: the length, the width's rule, the digits and the sum, in this order. Assumes nothing.
+use mathlib.Core.Path.{refl, sym, ◌∙◌}
 use native.Mathlib.Omega.{arith}
-use lib.Dec.{T}
 use lib.Seq.{length-take-le}
-use Rattle.rules.specs.declared.Verdict.TheVariants.{WrongLength}
-use Rattle.rules.specs.Widths.{width_r}
+use Rattle.std.specs.Prelude.{Err}
+use Rattle.rules.specs.declared.Refusal.TheVariants.{WrongLength}
 use Rattle.rules.specs.Forms.{card_r}
 use Rattle.rules.specs.Refusals.{Offered}
-use Rattle.rules.specs.Verdicts.{number}
-use Rattle.rules.proofs.Verdicts.{number-zero}
-use Rattle.rules.proofs.Refusals.{refused-1}
+use Rattle.rules.proofs.Verdicts.{handed-on, err-number, refusal-number}
+use Rattle.rules.proofs.Refusals.{refused-1, verdict-width}
 use Rattle.rules.proofs.Reading.{reads-refused, reads-faulty}
 use Rattle.rules.proofs.Table.{row_fits}
-use Rattle.radix_read.proofs.ReadLaws.{width-allowed, width-refused, sum-reads}
+use Rattle.scalar.proofs.ScalarAnswers.{refused-answer}
+use Rattle.radix_read.proofs.ReadLaws.{sum-reads}
 use Rattle.radix_read.proofs.read.Goals as goal
-use Rattle.radix_read.proofs.read.Goals.{After-first_fault-fault, Else-number-ne0}
+use Rattle.radix_read.proofs.read.Goals.{After-first_fault}
 
 pub returns-then-digits-ne64 : goal.returns-then-digits-ne64
 returns-then-digits-ne64 c =
     let a = c.args in
-    reads-refused (card_r a.w) a.digits.now _ _ WrongLength ((refused-1 (card_r a.w) a.digits.now).1 (λ e. omega arith)) (λ z. omega arith) c.refused.ensures
+    reads-refused (card_r a.w) a.digits.now _ _ (Err WrongLength) ((refused-1 (card_r a.w) a.digits.now).1 (λ e. omega arith)) (λ z. omega arith) (refl, refl)
 
-pub returns-then-number-ne0 : goal.returns-then-number-ne0
-returns-then-number-ne0 c =
+pub returns-in_err-rule : goal.returns-in_err-rule
+returns-in_err-rule c =
     let a = c.args in
-    let f : number c.shape-row.result.verdict ≢ 0 = λ z. c.if-number-ne0.true (c.number.ensures ∙ z) in
-    reads-refused (card_r a.w) a.digits.now _ _ c.shape-row.result.verdict
-    (width-refused a.w a.digits.now c.shape-row.result.verdict c.shape-row.ensures.answered (omega arith) f) f c.refused-then-number-ne0.ensures
+    let refusal = c.in_err-rule.field-0.0 in
+    reads-refused (card_r a.w) a.digits.now _ _ (Err refusal)
+    (verdict-width (card_r a.w) a.digits.now c.in_err-rule.ensures.answered (refusal-number refusal) (omega arith)) (refusal-number refusal)
+    (refused-answer (handed-on c.from_residual.result refusal c.from_residual.ensures.1))
 
 -- past the length and the width
-allowed : (c : Else-number-ne0) → T (width_r c.args.w)
-allowed c =
-    let a = c.args in
-    width-allowed a.w a.digits.now c.shape-row.result.verdict c.shape-row.ensures.answered (sym c.number.ensures ∙ c.if-number-ne0.false)
+offers : (c : After-first_fault) → let a = c.args in Offered (card_r a.w) a.digits.now
+offers c = record { long = omega arith; allowed = rw c.in_ok-rule.ensures.at_width at c.in_ok-rule.rule.allowed }
 
-pub first_fault-fault-requires : goal.first_fault-fault-requires
-first_fault-fault-requires c = (allowed (goal.at.first_fault-fault-requires c).Else-number-ne0, c.shape-row.ensures.counted, c.shape-row.ensures.topped, omega arith)
-
-offers : (c : After-first_fault-fault) → let a = c.args in Offered (card_r a.w) a.digits.now
-offers c = record { long = omega arith; allowed = allowed c.before }
-
-pub returns-then-number-ne0-2 : goal.returns-then-number-ne0-2
-returns-then-number-ne0-2 c =
-    let a = c.args in
-    reads-faulty (card_r a.w) a.digits.now _ _ (offers (goal.at.returns-then-number-ne0-2 c).After-first_fault-fault) c.first_fault-fault.result c.first_fault-fault.ensures (λ z. c.if-number-ne0-2.true (c.number-2.ensures ∙ z)) c.refused-then-number-ne0-2.ensures
+pub returns-in_err-first_fault : goal.returns-in_err-first_fault
+returns-in_err-first_fault c =
+    reads-faulty _ _ _ _ (offers (goal.at.returns-in_err-first_fault c).After-first_fault) _ (sym c.in_err-first_fault.was ∙ rw c.in_ok-rule.ensures.at_width at c.first_fault.ensures) (err-number refl)
+    (refused-answer (handed-on c.from_residual-in_err-first_fault.result c.in_err-first_fault.field-0.0 c.from_residual-in_err-first_fault.ensures.1))
 
 pub slice_bounds-read_sum-end : goal.slice_bounds-read_sum-end
 slice_bounds-read_sum-end c =
-    sym (length-take-le _ _ (omega (arith, (row_fits c.args.w (allowed (goal.at.slice_bounds-read_sum-end c).Else-number-ne0)).most, c.shape-row.ensures.counted)))
+    let s = c.in_ok-rule.rule in
+    sym (length-take-le _ _ (omega (arith, (row_fits s.w s.allowed).most, s.counted)))
 
 pub returns : goal.returns
 returns c =
-    let h = c.shape-row.ensures in
+    let s = c.in_ok-rule.rule in
     let a = c.args in
-    let z = sym c.number-2.ensures ∙ c.if-number-ne0-2.false in
-    sum-reads a.digits.now a.w _ _ (offers (goal.at.returns c).After-first_fault-fault) (sym c.first_fault-fault.ensures ∙ number-zero c.first_fault-fault.result z) (rw (← h.counted, ← h.ended) c.read_sum.ensures)
+    let same = c.in_ok-rule.ensures.at_width in
+    sum-reads a.digits.now a.w _ _ (offers (goal.at.returns c).After-first_fault) (sym (rw same at c.first_fault.ensures) ∙ c.in_ok-first_fault.was)
+    (rw (← rw same at s.counted, ← rw same at s.ended) c.read_sum.ensures)

@@ -1,10 +1,9 @@
 -- The digits' rules as a loop tries them, by one walk with a counter: how the test's inner functions go, which the test's promise does not name. Assumes nothing.
 use Rattle.std.specs.Prelude.{ℕ, suc, ◌-◌, cond, ◌||◌, List, [], ◌∷◌, eqb, ℤ}
-use Rattle.rules.specs.declared.Verdict.{Verdict}
-use Rattle.rules.specs.declared.Verdict.TheVariants.{Done, BrokenDigit, Crowded}
+use Rattle.rules.specs.declared.Refusal.TheVariants.{BrokenDigit, Crowded}
 use Rattle.rules.specs.Digits.{is_zero}
 use Rattle.rules.specs.Forms.{Form}
-use Rattle.rules.specs.Verdicts.{unless, ◌or_else◌}
+use Rattle.rules.specs.Verdicts.{Verdict, Done, unless, ◌or_else◌}
 
 -- What is wrong with digit d at index i, where `held` digits from here on lie within the gap after the last non-zero one.
 unfoldable pub fault : Form → ℕ → ℕ → ℤ → Verdict

@@ -1,11 +1,11 @@
 -- `shape::shape` meets its contract, by computing the table's row at each of its widths; any other width is not R's. Assumes nothing.
-use mathlib.Core.Path.{◌≡◌, refl, sym, ap, ◌∙◌}
+use mathlib.Core.Path.{◌≡◌, refl, sym, ap}
 use Rattle.std.proofs.Common.{◌≢◌, arith}
 use Prim.Native.Nat.{ℕ}
 use borrow.Author.Tests.{ne_eqb}
 use lib.Dec.{T, not_T}
-use Rattle.rules.specs.declared.Verdict.{Verdict}
-use Rattle.rules.specs.declared.Verdict.TheVariants.{Done, WrongWidth}
+use Rattle.rules.specs.declared.Refusal.TheVariants.{WrongWidth}
+use Rattle.rules.specs.Verdicts.{Done}
 use Rattle.rules.specs.Widths.{Row, width_r, row}
 use Rattle.rules.proofs.Verdicts.{unless-held, unless-failed}
 use Rattle.rules.proofs.Table.{at-widths}
@@ -13,8 +13,8 @@ use Rattle.shape.specs.Shape.{ShapeOf}
 use Rattle.shape.proofs.shape.Goals as goal
 
 -- the row of a width that is one of R's
-held : (v : ℕ) {w : ℕ} {answer : Verdict} {digits top bits : ℕ} → T (width_r v) → w ≡ v → (answer ≡ Done) × (digits ≡ (row v).digits) × (top ≡ (row v).top) × (bits ≡ (row v).bits) → ShapeOf w answer digits top bits
-held v t e r = rw e (record { answered = r.0 ∙ sym (unless-held (width_r v) WrongWidth t); counted = r.1; topped = r.2; ended = r.3 })
+held : (v : ℕ) {w : ℕ} {digits top bits : ℕ} → T (width_r v) → w ≡ v → (digits ≡ (row v).digits) × (top ≡ (row v).top) × (bits ≡ (row v).bits) → ShapeOf w Done digits top bits
+held v t e r = rw e (record { answered = sym (unless-held (width_r v) WrongWidth t); counted = r.0; topped = r.1; ended = r.2 })
 
 pub returns-in-4 : goal.returns-in-4
 unfolding row

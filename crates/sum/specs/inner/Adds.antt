@@ -1,7 +1,6 @@
 -- What the loops of `read_sum` hold on the way. Assumes nothing.
-use Rattle.std.specs.Prelude.{ℕ, ◌+◌, ◌*◌, ◌^◌, ◌<◌, ◌≤◌, ◌≡◌, ◌≢◌, Bool, List, take, replicate, ℤ, pos, ◌+ℤ◌}
-use Rattle.rules.specs.declared.Verdict.{Verdict}
-use Rattle.rules.specs.declared.Verdict.TheVariants.{Done}
+use Rattle.std.specs.Prelude.{ℕ, ◌+◌, ◌*◌, ◌^◌, ◌≤◌, ◌≡◌, ◌≢◌, Bool, List, take, replicate, ℤ, pos, ◌+ℤ◌}
+use Rattle.rules.specs.Verdicts.{Verdict, Done}
 use Rattle.rules.specs.Integer.{integer}
 use Rattle.rules.specs.Digits.{weighted}
 use Rattle.rules.specs.Test.{range_fault}
@@ -12,12 +11,14 @@ pub record Adds (ds : List ℤ) (w at low next held bits : ℕ) : Type 0 where
   pub place : 8 * at + bits ≡ w * next
   pub sum : weighted (2 ^ w) (take next ds) +ℤ pos (128 * 2 ^ (w * next)) ≡ pos (low + 256 ^ at * held)
 
--- From one rest to a later one with more digits in it.
+-- What stood for the digits passed still does, with more digits in it.
+abbrev pub Keeps : List ℤ → ℕ → ℕ → ℕ → ℕ → ℕ → ℕ → ℕ → Type 0
+Keeps ds w next held bits next' held' bits' = (at low : ℕ) → Adds ds w at low next held bits → Adds ds w at low next' held' bits'
+
+-- From one rest to a later one that has a full byte.
 pub record Gathers (ds : List ℤ) (w next held bits next' held' bits' : ℕ) : Type 0 where
-  pub keeps : (at low : ℕ) → Adds ds w at low next held bits → Adds ds w at low next' held' bits'
-  pub small : held' < 2 ^ (bits' + 8)
+  pub keeps : Keeps ds w next held bits next' held' bits'
   pub full : 8 ≤ bits'
-  pub bounded : bits' ≤ 15
   pub taken : next' + bits ≤ next + bits'
 
 -- The integer z in 32 bytes and what stands above them, counted from `half`.

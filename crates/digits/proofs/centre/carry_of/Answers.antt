@@ -6,7 +6,6 @@ use lib.Dec.{leb}
 use mir.Val.{bool_byte}
 use borrow.Author.Tests.{lt-leb, le-leb, lt-ltb, le-ltb}
 use Rattle.numbers.specs.Centred.{carried}
-use Rattle.numbers.proofs.Centred.{carried-bit}
 use Rattle.digits.proofs.Signed.{order}
 use Rattle.digits.proofs.centre.carry_of.Goals as goal
 
@@ -15,6 +14,4 @@ unfolding carried
 test-carried h r = ⊎_elim (λ l. rw (lt-leb h r l, lt-ltb r h l)) (λ l. rw (le-leb h r l, le-ltb r h l)) (order r h)
 
 pub returns : goal.returns
-returns c =
-    let e = test-carried c.args.half c.args.window in
-    (e, rw e (carried-bit c.args.half c.args.window))
+returns c = test-carried c.args.half c.args.window

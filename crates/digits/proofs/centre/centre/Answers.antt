@@ -1,6 +1,6 @@
 -- `centre`: the window less what of its span is carried. Assumes nothing.
 use mathlib.Core.Path.{◌≡◌, ◌∙◌}
-use Prim.Native.Nat.{◌*◌, ◌≤◌}
+use Prim.Native.Nat.{ℕ, ◌*◌, ◌≤◌}
 use native.Mathlib.Omega.{arith}
 use native.Mathlib.Nat.{mul-le-mul_right}
 use mir.Syntax.{w64}
@@ -10,18 +10,18 @@ use Rattle.numbers.proofs.Centred.{taken-off}
 use Rattle.digits.proofs.centre.centre.Goals as goal
 
 -- at most the whole span is taken off
-most : (c : goal.After-carry_of-carry) → c.carry_of-carry.result * (2 * c.args.half) ≤ 1 * (2 * c.args.half)
-most c = mul-le-mul_right (2 * c.args.half) c.carry_of-carry.ensures.1
+most : (c h : ℕ) → c ≤ 1 → c * (2 * h) ≤ 1 * (2 * h)
+most c h l = mul-le-mul_right (2 * h) l
 
 pub overflow_mul-carry : goal.overflow_mul-carry
-overflow_mul-carry c = let m = most c in record { fits = omega (arith, m) }
+overflow_mul-carry c = let m = most _ c.args.half c.carry_of-carry.result.small in record { fits = omega (arith, m) }
 
 pub less-digit-requires : goal.less-digit-requires
-less-digit-requires c = let m = most c in (omega arith, omega (arith, m))
+less-digit-requires c = let m = most _ c.args.half c.carry_of-carry.result.small in (omega arith, omega (arith, m))
 
 pub returns : goal.returns
 returns c =
     let a = c.args in
     let carry = c.carry_of-carry.ensures in
     let back : to_z w64 (of_z w64 c.less-digit.result) ≡ c.less-digit.result = search rules in
-    (back ∙ c.less-digit.ensures ∙ rw carry.0 (taken-off a.half a.window), carry.0, carry.1)
+    (back ∙ c.less-digit.ensures ∙ rw carry (taken-off a.half a.window), carry)

@@ -5,7 +5,7 @@ use Rattle.naf.proofs.Places.{Walked}
 use Rattle.naf.proofs.recode.recode.Given as goal
 
 abbrev pub invariant-loop-at : goal.invariant-loop-at
-invariant-loop-at l = (l.at ≤ 263) × (l.additions ≤ l.at) × Walked l.w 256 (integer l.bytes) l.at l.carry l.digits l.count l.additions
+invariant-loop-at l = (l.at ≤ 263) × (l.additions ≤ l.at) × Walked l.width.w 256 (integer l.bytes) l.at l.carry.bit l.digits l.count l.additions
 
 abbrev pub decreases-loop-at : goal.decreases-loop-at
 decreases-loop-at l = 264 - l.at

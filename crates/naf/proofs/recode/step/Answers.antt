@@ -1,39 +1,15 @@
--- `step`: the window is the integer's, and the digit of the window and the carry fits a signed byte. Assumes nothing.
-use Prim.Native.Nat.{ℕ, ◌/◌, ◌^◌}
-use mathlib.Core.Path.{◌≡◌, refl}
-use native.Mathlib.Omega.{arith}
-use borrow.Author.Rules.{rules}
-use mir.Syntax.{w8}
-use Rattle.digits.proofs.Narrowed.{window-fits, window-is}
-use Rattle.rules.specs.Integer.{integer}
+-- `step`: the window is the integer's, and with the carry it is even or is taken. Assumes nothing.
+use Rattle.naf.specs.inner.Turns.{StepN}
 use Rattle.naf.proofs.recode.step.Goals as goal
 
 pub returns-then-x-eq0 : goal.returns-then-x-eq0
-returns-then-x-eq0 c =
-    let h = c.requires in
-    let e = c.window.ensures.narrow h.0.most in
-    record {
-      skips = λ f. (rw e at c.if-x-eq0.true, refl);
-      takes = λ t. let z : ◌≡◌ {A = ℕ} 0 1 = cc in absurd (omega arith);
-      bit = h.1;
-    }
-
-pub overflow_cast-digit : goal.overflow_cast-digit
-overflow_cast-digit c =
-    let e = c.window.ensures.narrow c.requires.0.most in
-    let made = rw (e, c.requires.0.power) at c.centre-c.ensures in
-    window-fits w8 c.args.w (integer c.args.bytes.now / 2 ^ c.args.at) c.args.carry (omega arith) (omega arith) c.requires.1 (search rules) made.0
+unfolding StepN
+returns-then-x-eq0 c = rw (c.window.ensures.narrow c.args.width.most) at c.if-x-eq0.true
 
 pub returns : goal.returns
+unfolding StepN
 returns c =
-    let e = c.window.ensures.narrow c.requires.0.most in
-    let made = rw (e, c.requires.0.power) at c.centre-c.ensures in
-    record {
-      skips = λ f. let z : ◌≡◌ {A = ℕ} 0 1 = cc in absurd (omega arith);
-      takes = λ t. (
-        rw e at c.if-x-eq0.false,
-        window-is w8 c.args.w (integer c.args.bytes.now / 2 ^ c.args.at) c.args.carry (omega arith) (omega arith) c.requires.1 (search rules) made.0,
-        made.1,
-      );
-      bit = made.2;
-    }
+    let e = c.window.ensures.narrow c.args.width.most in
+    let made = rw e at c.centre.ensures in
+    let half = c.args.width.power in
+    record { odd = rw e at c.if-x-eq0.false; is = rw (← half) made.0; carries = rw (← half) made.1 }

@@ -13,5 +13,5 @@ pub returns : goal.returns
 unfolding row
 returns c =
     let bytes = c.args.s.bytes in
-    let e = c.reply.ensures in
+    let e = c.done.ensures in
     recodes-done (card_r 4) bytes (due-16 bytes (omega arith)) e.0 (rw e.1 c.nibbles.ensures) e.2 e.3

@@ -5,4 +5,4 @@ use Rattle.radix.proofs.Carries.{Recoding}
 use Rattle.radix.proofs.recode.nibbles.Given as goal
 
 abbrev pub invariant-loop-k : goal.invariant-loop-k
-invariant-loop-k l = (l.k ≤ 31) × Recoding 4 (integer l.bytes) (2 * l.k) l.digits l.carry
+invariant-loop-k l = (l.k ≤ 31) × Recoding 4 (integer l.bytes) (2 * l.k) l.digits l.carry.bit

@@ -6,11 +6,11 @@ use Rattle.digits.proofs.Narrowed.{narrow-fits, narrow-is}
 use Rattle.radix.proofs.Halves.{half-fits}
 use Rattle.radix.proofs.recode.two_digits.Goals as goal
 
-pub overflow_cast-low : goal.overflow_cast-low
-overflow_cast-low c = narrow-fits w8 (search rules) c.centre-first.ensures.0 (half-fits _ (omega arith))
+pub overflow_cast-result : goal.overflow_cast-result
+overflow_cast-result c = narrow-fits w8 (search rules) c.centre-first.ensures.0 (half-fits _ (omega arith))
 
-pub overflow_cast-high : goal.overflow_cast-high
-overflow_cast-high c = narrow-fits w8 (search rules) c.centre-second.ensures.0 (half-fits _ (omega arith))
+pub overflow_cast-result-2 : goal.overflow_cast-result-2
+overflow_cast-result-2 c = narrow-fits w8 (search rules) c.centre-second.ensures.0 (half-fits _ (omega arith))
 
 pub returns : goal.returns
 returns c =
@@ -19,5 +19,4 @@ returns c =
       narrow-is w8 (search rules) first.0 (half-fits _ (omega arith)),
       rw first.1 at (narrow-is w8 (search rules) second.0 (half-fits _ (omega arith))),
       rw first.1 at second.1,
-      second.2,
     )

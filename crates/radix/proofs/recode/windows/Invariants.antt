@@ -5,4 +5,4 @@ use Rattle.radix.proofs.Carries.{Recoding}
 use Rattle.radix.proofs.recode.windows.Given as goal
 
 abbrev pub invariant-loop-i : goal.invariant-loop-i
-invariant-loop-i l = (l.i ≤ l.last) × (l.last < 64) × Recoding l.w (integer l.bytes) l.i l.digits l.carry
+invariant-loop-i l = (l.i ≤ l.last) × (l.last < 64) × Recoding l.w (integer l.bytes) l.i l.digits l.carry.bit

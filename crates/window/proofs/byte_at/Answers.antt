@@ -1,8 +1,0 @@
--- `window::byte_at` meets its contract: past the end the list gives 0. Assumes nothing.
-use mathlib.Core.Path.{sym}
-use lib.ListN.{get_or-eq_default}
-use lib.Dec.{lit<}
-use Rattle.window.proofs.byte_at.Goals as goal
-
-pub returns-else-i-bytes : goal.returns-else-i-bytes
-returns-else-i-bytes c = (sym (get_or-eq_default c.args.bytes.now 0 c.if-i-bytes.false), lit< tt)
