@@ -39,7 +39,7 @@ fn two_digits(byte: u8, carry: Carry) -> Pair
     }
 }
 
-// The 64 digits of radix 16; the last is not recentred. The index places a byte and its two digits; an iterator over either asks for a longer invariant.
+// The 64 digits of radix 16; the last is not recentred. The index places a byte and its two digits.
 fn nibbles(bytes: [u8; 32]) -> [i8; 64]
     requires { get_or bytes 31 0 ≤ 127 }
     ensures { Recoded (card_r 4) (integer bytes) result }

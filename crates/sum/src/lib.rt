@@ -106,7 +106,6 @@ impl<'a> Summands<'a> {
     {
         let mut bytes = [0u8; 32];
         let mut held = Held::new();
-        // The index says how many bytes are written, which is what each turn needs to know.
         for at in 0..32 {
             let full = self.gather(held);
             bytes[at] = (full.sum % 256) as u8;
