@@ -1,12 +1,15 @@
--- Numbers in decimal, as `itoa` writes them; the lines that they stand in, and how long these are. Assumes nothing.
-use mathlib.Core.Path.{◌≡◌, refl, sym, ap, ap₂, ◌∙◌}
+-- Numbers in decimal; the lines that they stand in, and how long these are. Assumes nothing.
+use mathlib.Core.Path.{◌≡◌, refl, sym, ap, ap₂, subst, ◌∙◌}
+use mathlib.Core.Bool.{true, false}
 use mathlib.Core.List.{List, [], ◌∷◌, ◌++◌, append-nil, append_assoc}
-use Prim.Native.Nat.{ℕ, suc, ◌+◌, ◌-◌, ◌*◌, ◌<◌, ◌≤◌}
-use native.Mathlib.Nat.{add-zero}
+use Prim.Native.Nat.{ℕ, suc, ◌+◌, ◌-◌, ◌*◌, ◌/◌, ◌%◌, ◌<◌, ◌≤◌}
+use native.Mathlib.Nat.{add-zero, not-suc-le-zero}
 use native.Mathlib.Numerals.{add-one}
 use native.Mathlib.Omega.{arith}
-use lib.IntN.{ℤ, pos, negsuc}
-use lib.Signed.{mag}
+use borrow.Author.Tests.{lt-ltb, le-ltb, ltb-true}
+use lib.IntN.{ℤ, pos, negsuc, nat_abs}
+use lib.Dec.{T}
+use lib.Signed.{lt_z, mag}
 use lib.ListN.{length, take, drop, replicate, length-append, take-append-drop}
 use lib.Seq.{take-suc, drop-drop, length-take-le}
 use Rattle.std.proofs.lemmas.Fmt.{decimal_digit, decimal_step}
@@ -19,6 +22,30 @@ use Rattle.report.specs.Ascii.{ascii}
 use Rattle.report.specs.Text.{decimal, signed_decimal, fixed_line, form_line, digit_line, digit_lines}
 
 -- ---- numbers in decimal
+
+pub one-figure : (n : ℕ) → n < 10 → (48 + n) ∷ [] ≡ decimal n
+unfolding decimal
+one-figure n h = rw (lt-ltb n 10 h)
+
+pub two-figures : (n : ℕ) → 10 ≤ n → n < 100 → (48 + n / 10) ∷ (48 + n % 10) ∷ [] ≡ decimal n
+unfolding decimal
+two-figures n g h = rw (le-ltb n 10 g, lt-ltb n 100 h)
+
+pub three-figures : (n : ℕ) → 100 ≤ n → (48 + n / 100) ∷ (48 + n / 10 % 10) ∷ (48 + n % 10) ∷ [] ≡ decimal n
+unfolding decimal
+three-figures n h = rw (le-ltb n 10 (omega arith), le-ltb n 100 h)
+
+pub below-zero : (d : ℤ) → lt_z d (pos 0) ≡ true → ascii "-" ++ decimal (nat_abs d) ≡ signed_decimal d
+unfolding signed_decimal
+below-zero (pos n) t = absurd (not-suc-le-zero (ltb-true n 0 t))
+below-zero (negsuc n) t = refl
+
+pub from-zero : (d : ℤ) → lt_z d (pos 0) ≡ false → decimal (nat_abs d) ≡ signed_decimal d
+unfolding signed_decimal
+from-zero (pos n) t = refl
+from-zero (negsuc n) t = absurd (subst T t tt)
+
+-- ---- the same numbers in the words of std
 
 pub number_is : (n : ℕ) → n < 1000 → std.decimal n ≡ decimal n
 unfolding decimal
@@ -75,7 +102,7 @@ pub fixed_line_length : length fixed_line ≡ 14
 unfolding fixed_line ascii
 fixed_line_length = refl
 
-pub ruleset texts = (number_is, digit_is, length-append, length-take-le, fixed_line_length, form_line_length, decimal_length, signed_length, digit_line_length, digit_lines_length)
+pub ruleset texts = (length-append, length-take-le, fixed_line_length, form_line_length, decimal_length, signed_length, digit_line_length, digit_lines_length)
 
 -- ---- a text that grows by k bytes leaves zeros behind it
 
@@ -86,10 +113,10 @@ zeros_stay n k bytes z =
 
 -- ---- a text fixes its array: what a method of `Text` promises leaves no room
 
-pub put-determined : (before text : List ℕ) {bytes bytes' : List ℕ} {len len' : ℕ} → length bytes ≡ SIZE → length bytes' ≡ SIZE → len ≤ SIZE → len' ≤ SIZE
+pub text-determined : (before text : List ℕ) {bytes bytes' : List ℕ} {len len' : ℕ} → length bytes ≡ SIZE → length bytes' ≡ SIZE → len ≤ SIZE → len' ≤ SIZE
     → drop len bytes ≡ replicate (SIZE - len) 0 → drop len' bytes' ≡ replicate (SIZE - len') 0
     → take len bytes ≡ before ++ text → take len' bytes' ≡ before ++ text → (bytes ≡ bytes') × (len ≡ len')
-put-determined before text {bytes} {bytes'} {len} {len'} l l' h h' z z' e e' =
+text-determined before text {bytes} {bytes'} {len} {len'} l l' h h' z z' e e' =
     let same : take len bytes ≡ take len' bytes' = e ∙ sym e' in
     let n : len ≡ len' = sym (length-take-le len bytes (omega (arith, l))) ∙ ap length same ∙ length-take-le len' bytes' (omega (arith, l')) in
     let rest : drop len bytes ≡ drop len' bytes' = z ∙ ap (λ (k : ℕ). replicate (SIZE - k) 0) n ∙ sym z' in

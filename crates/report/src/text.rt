@@ -1,13 +1,20 @@
 // The text of a report as it grows, and the lines that are put at its end.
-ghost use Rattle.std.specs.Prelude.{◌≡◌, ◌-◌, ◌*◌, ◌<◌, ◌≤◌, [], ◌++◌, length, replicate};
+ghost use Rattle.std.specs.Prelude.{◌≡◌, ◌+◌, ◌-◌, ◌*◌, ◌<◌, ◌≤◌, [], ◌++◌, length, replicate};
 ghost use Rattle.report.specs.inner.Room.{HasRoom};
 ghost use Rattle.report.specs.Text.{decimal, signed_decimal, fixed_line, form_line, digit_line, digit_lines, refused_line, answer_lines};
 
 use crate::{Output, SIZE};
 use digits::recoding::Recoding;
-use itoa::Buffer;
 use rules::Refusal;
 use std::marker::Model;
+
+// A figure as the byte that is written.
+fn figure(n: usize) -> u8
+    requires { n < 10 }
+    ensures { result ≡ 48 + n }
+{
+    b'0' + n as u8
+}
 
 // The text so far is the first `len` bytes, and those past it are 0.
 // A type of its own and no `Output`: its Model is the text alone, which the methods' clauses speak of, while a reader of `Output` sees the array.
@@ -61,12 +68,19 @@ impl Text {
     }
 
     // A number below 1000 in decimal.
-    // It is written by `itoa`: what `write!` ensures leaves an `Err` open, a `String` may run out of memory, and a report has to be made.
+    // By hand: what `write!` ensures leaves an `Err` open, a `String` may run out of memory, and a report has to be made; a crate that writes numbers would be one
+    // more to trust, and this repository stands on `std` alone.
     fn number(&mut self, n: usize)
         requires { (n < 1000) × HasRoom 3 self.old }
         ensures { self.new ≡ self.old ++ decimal n }
     {
-        self.push(Buffer::new().format(n).as_bytes());
+        if n < 10 {
+            return self.push(&[figure(n)]);
+        }
+        if n < 100 {
+            return self.push(&[figure(n / 10), figure(n % 10)]);
+        }
+        self.push(&[figure(n / 100), figure(n / 10 % 10), figure(n % 10)]);
     }
 
     // A digit in decimal, with a minus sign if it is negative.
@@ -74,7 +88,12 @@ impl Text {
         requires { HasRoom 4 self.old }
         ensures { self.new ≡ self.old ++ signed_decimal d }
     {
-        self.push(Buffer::new().format(d).as_bytes());
+        let size = usize::from(d.unsigned_abs());
+        if d < 0 {
+            self.push(b"-");
+            return self.number(size);
+        }
+        self.number(size);
     }
 
     // A digit's line: its index and the digit. A digit that is 0 has none.
