@@ -1,40 +1,75 @@
 #![tactic(auto)]
 // Runs form R on document 01's figures, the refusals and both sides of each edge, and prints what it answers.
 // The file `stdout` beside src/ was worked out by tools/expect-radix-figures, in Python integers, from the rules and without this library.
-use figures::{begin, edges, every_width, recoding, small, string, topped};
+use figures::{EDGES, laid, lowest, of_recoding, recoded, tested_and_read, topped};
 use forms::FormR;
 use radix::recode::as_radix_16;
+use scalar::Scalar;
 use std::io;
+
+// A scalar recoded at a width, and its digits tested and read. What prints stands here and in the program of N's figures: a public function has a contract, and none can speak of what is printed.
+fn recode(rt: &impl Print, name: &str, s: Scalar, w: usize) -> io::Result<()> {
+    print!(rt; "{name} {w} {} \n", recoded::<FormR, _>(s, w))
+}
+
+// The edges of the two ranges at one width.
+fn edges(rt: &impl Print, w: usize) -> io::Result<()> {
+    for (name, rest, top) in EDGES {
+        recode(rt, name, topped(rest, top), w)?;
+    }
+    Ok(())
+}
+
+// The edges at every width of the form.
+fn every_width(rt: &impl Print) -> io::Result<()> {
+    for w in 4..=8 {
+        edges(rt, w)?;
+    }
+    Ok(())
+}
+
+// The first n of 257 digits, all 0 but two, tested and read at a width.
+fn string(rt: &impl Print, n: usize, w: usize, named: [(usize, i8); 2]) -> io::Result<()> {
+    let [(i, d), (j, e)] = named;
+    let all = laid(i, d, j, e);
+    if n > all.len() {
+        return Ok(());
+    }
+    print!(rt;
+        "string {n} {w} {} \n",
+        tested_and_read::<FormR, _>(&all[..n], w)
+    )
+}
 
 // 01's figures on small scalars, and their neighbours.
 fn small_figures(rt: &impl Print) -> io::Result<()> {
     for (name, value, w) in [
-        (b"0" as &[u8], 0, 4),
-        (b"7", 7, 4),
-        (b"8", 8, 4),
-        (b"15", 15, 5),
-        (b"16", 16, 5),
-        (b"31", 31, 6),
-        (b"32", 32, 6),
-        (b"63", 63, 7),
-        (b"64", 64, 7),
-        (b"127", 127, 8),
-        (b"128", 128, 8),
-        (b"255", 255, 8),
+        ("0", 0, 4),
+        ("7", 7, 4),
+        ("8", 8, 4),
+        ("15", 15, 5),
+        ("16", 16, 5),
+        ("31", 31, 6),
+        ("32", 32, 6),
+        ("63", 63, 7),
+        ("64", 64, 7),
+        ("127", 127, 8),
+        ("128", 128, 8),
+        ("255", 255, 8),
     ] {
-        small::<FormR, _>(rt, name, value, w)?;
+        recode(rt, name, lowest(value), w)?;
     }
     Ok(())
 }
 
 // Widths that are not R's.
 fn wrong_widths(rt: &impl Print) -> io::Result<()> {
-    small::<FormR, _>(rt, b"7", 7, 0)?;
+    recode(rt, "7", lowest(7), 0)?;
     for w in [3, 9] {
-        edges::<FormR, _>(rt, w)?;
+        edges(rt, w)?;
     }
     for w in [0x1_0000_0004, 0xFFFF_FFFF_FFFF_FFFF] {
-        small::<FormR, _>(rt, b"7", 7, w)?;
+        recode(rt, "7", lowest(7), w)?;
     }
     Ok(())
 }
@@ -42,15 +77,18 @@ fn wrong_widths(rt: &impl Print) -> io::Result<()> {
 // The entry of its own for radix 16.
 fn sixteen(rt: &impl Print) -> io::Result<()> {
     for top in [127, 255] {
-        show::text(rt, b"radix16")?;
-        recoding::<FormR, _>(rt, as_radix_16(topped(255, top)), 4)?;
+        print!(rt;
+            "radix16 {} \n",
+            of_recoding::<FormR, _>(as_radix_16(topped(255, top)), 4)
+        )?;
     }
     Ok(())
 }
 
 // A width's row; the row of a refused width is zeros.
 fn row(rt: &impl Print, w: usize) -> io::Result<()> {
-    begin(rt, b"shape", w)?;
+    show::text(rt, b"shape")?;
+    show::number(rt, w as u64)?;
     let row = shape::shape(w);
     show::verdict(rt, row.and(Ok(())))?;
     let (digits, top, bits) = match row {
@@ -90,7 +128,7 @@ fn narrow_strings(rt: &impl Print) -> io::Result<()> {
         (4, [(63, 9), (0, -1)]),
         (4, [(62, -8), (63, 8)]),
     ] {
-        string::<FormR, _>(rt, 64, w, &named)?;
+        string(rt, 64, w, named)?;
     }
     Ok(())
 }
@@ -109,7 +147,7 @@ fn wide_strings(rt: &impl Print) -> io::Result<()> {
         (7, [(36, 17), (0, -1)]),
         (7, [(0, 64), (52, 1)]),
     ] {
-        string::<FormR, _>(rt, 64, w, &named)?;
+        string(rt, 64, w, named)?;
     }
     Ok(())
 }
@@ -124,7 +162,7 @@ fn wrong_lengths(rt: &impl Print) -> io::Result<()> {
         (64, 9, 1),
         (63, 9, 1),
     ] {
-        string::<FormR, _>(rt, n, w, &[(0, d)])?;
+        string(rt, n, w, [(0, d), (0, d)])?;
     }
     Ok(())
 }
@@ -132,7 +170,7 @@ fn wrong_lengths(rt: &impl Print) -> io::Result<()> {
 // All of them, in the order of `stdout`.
 fn main(rt: HostRuntime) -> io::Result<()> {
     small_figures(&rt)?;
-    every_width::<FormR, _>(&rt, 4)?;
+    every_width(&rt)?;
     wrong_widths(&rt)?;
     sixteen(&rt)?;
     rows(&rt)?;
