@@ -29,7 +29,7 @@ use Rattle.acceptance.proofs.Recoders.{answered, recodes}
 use Rattle.acceptance.proofs.Readers.{reads}
 
 -- std's word for what is tried first
-and-else : (u v : Verdict) → result_and u v ≡ u or_else v
+pub and-else : (u v : Verdict) → result_and u v ≡ u or_else v
 and-else (Ok tt) v = sym (passed_on Done v refl)
 and-else (Err e) v = sym (refused-or_else (Err e) v (refusal-number e))
 
