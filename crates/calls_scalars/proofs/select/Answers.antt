@@ -33,12 +33,11 @@ sizes : (c : In_ok-second) → let a = c.args in T ((sized 32 a.a.now && sized 3
 sizes c =
     and_both _ _ (and_both _ _ (right-length _ (slice-answered c.in_ok-first.ensures)) (right-length _ (slice-answered c.in_ok-second.ensures))) (right-length _ c.in_ok-has_length.ensures)
 
-pub returns-in_err-made : goal.returns-in_err-made
-returns-in_err-made c =
-    let r = c.from_residual-in_err-made in
-    answers-stopped (right-lengths _ _ (sizes (goal.at.returns-in_err-made c).In_ok-second) ∙ sym (select-due _ c.in_err-made.ensures)) (handed-on r.result _ r.ensures.1)
+pub returns-in-Err : goal.returns-in-Err
+returns-in-Err c =
+    answers-stopped (right-lengths _ _ (sizes (goal.at.returns-in-Err c).In_ok-second) ∙ sym (select-due _ c.in-Err.ensures)) refl
 
 pub returns : goal.returns
 returns c =
-    answers-done (right-lengths _ _ (sizes (goal.at.returns c).In_ok-second) ∙ sym (select-due _ c.in_ok-made.ensures))
-    (rw (c.copy_from_slice.ensures.after, ← slice_taken c.in_ok-first.ensures refl, ← slice_taken c.in_ok-second.ensures refl) c.in_ok-made.ensures)
+    answers-done (right-lengths _ _ (sizes (goal.at.returns c).In_ok-second) ∙ sym (select-due _ c.in-Ok.ensures))
+    (rw (c.copy_from_slice.ensures.after, ← slice_taken c.in_ok-first.ensures refl, ← slice_taken c.in_ok-second.ensures refl) c.in-Ok.ensures)
