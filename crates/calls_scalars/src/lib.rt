@@ -27,7 +27,7 @@ pub fn select(a: &[u8], b: &[u8], choice: u64, out: &mut [u8]) -> Verdict
     has_length(out, 32)?;
     let first = from_slice(a)?;
     let second = from_slice(b)?;
-    // By a match: with `?` the scalar is taken apart and copied once more, and the call takes half as long again.
+    // By a match: with `?` the scalar is copied once more, and the call takes a quarter longer.
     match conditional_select(first, second, choice) {
         Ok(made) => out.copy_from_slice(&made.bytes),
         Err(refusal) => return Err(refusal),
